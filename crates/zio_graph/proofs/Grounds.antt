@@ -2,7 +2,7 @@
 use Rattle.std.specs.Prelude.{◌^◌}
 use Rattle.std.proofs.Common.{◌≡◌, ℕ, ◌≤◌, List, [], ◌∷◌, length, map, replicate, true, ◌&&◌, Bool, IsTrue, refl, sym, ap, ◌∙◌, subst, arith}
 use Rattle.std.specs.List.{AllByRecursion, list_all}
-use Rattle.std.proofs.lemmas.List.{length-replicate}
+use Rattle.std.proofs.lemmas.List.{length-map, length-replicate}
 use Rattle.zio_types.specs.declared.place.Place.{Place}
 use Rattle.zio_types.specs.declared.place.Top.{Top}
 use Rattle.zio_types.specs.Places.{is_inside, is_lawful_top}
@@ -120,6 +120,41 @@ begun_ready {D} bytes point old new b h =
       leaves_once = s.leaves_once;
       leaves_differ = s.leaves_differ;
       bears = s.bears;
+      short = s.short;
+      pointers = s.pointers;
+    } in
+    subst (AreReadyGrounds {D = D} bytes) (sym same) (record { steady = steady; tops = h.tops })
+
+-- ---- flushed
+
+-- disks of the sizes that they had, and all else as it was
+pub record HaveFlushed {D : Type 0} (bytes : D → ℕ) (old new : Grounds D) : Type 0 where
+  pub setting : new.setting ≡ old.setting
+  pub sizes : map bytes new.disks.items ≡ map bytes old.disks.items
+  pub desk : new.desk ≡ old.desk
+  pub queues : new.queues ≡ old.queues
+
+pub flushed_ready : {D : Type 0} (bytes : D → ℕ) (old new : Grounds D) → HaveFlushed {D = D} bytes old new
+    → AreReadyGrounds {D = D} bytes old → AreReadyGrounds {D = D} bytes new
+flushed_ready {D} bytes old new f h =
+    let flushed : Grounds D = record { alloc = new.alloc; setting = old.setting; disks = new.disks; desk = old.desk; queues = old.queues } in
+    let same : new ≡ flushed = (λ i. record { alloc = new.alloc; setting = f.setting i; disks = new.disks; desk = f.desk i; queues = f.queues i }) in
+    let s : IsSteadyGrounds {D = D} bytes old = h.steady in
+    let many : length new.disks.items ≡ length old.disks.items =
+    sym (length-map new.disks.items bytes) ∙ (ap (λ (ns : List ℕ). length ns) f.sizes ∙ length-map old.disks.items bytes) in
+    let steady : IsSteadyGrounds {D = D} bytes flushed = record {
+      tops_are = s.tops_are;
+      sizes_are = s.sizes_are;
+      none_pending = s.none_pending;
+      none_made = s.none_made;
+      inside = s.inside;
+      once = s.once;
+      ready = subst (λ (ns : List ℕ). AreReady old.setting.rows ns old.queues.leaves.items) (sym f.sizes) s.ready;
+      none_waits = s.none_waits;
+      each = s.each ∙ sym many;
+      leaves_once = s.leaves_once;
+      leaves_differ = s.leaves_differ;
+      bears = subst (λ (ns : List ℕ). AllByRecursion (HasSectors ns) old.setting.tops) (sym f.sizes) s.bears;
       short = s.short;
       pointers = s.pointers;
     } in

@@ -18,6 +18,7 @@ pub mod RoundBlocks
 pub mod RoundEnds
 pub mod RoundKeys
 pub mod Sounds
+pub mod StableLemmas
 pub mod Standings
 pub mod Still
 pub mod SumWords

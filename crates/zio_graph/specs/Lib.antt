@@ -4,5 +4,6 @@ pub mod Graphs
 pub mod InUse
 pub mod Jobs
 pub mod RoundEnds
+pub mod Stable
 pub mod SteadyGrounds
 pub mod WholeRounds

@@ -1,6 +1,6 @@
 //! The engine on one thread.
 
-ghost use Rattle.std.specs.Prelude.{◌≡◌, ◌<◌, ◌^◌, IfErr, IfOk, IfSome, IsErrOf, List as Seq, OnErr, [], false, length, map};
+ghost use Rattle.std.specs.Prelude.{◌≡◌, ◌<◌, ◌^◌, IfErr, IfOk, IfSome, IsErrOf, List as Seq, OnErr, OnOk, [], false, length, map};
 ghost use Rattle.std.specs.List.{AllByRecursion};
 ghost use Rattle.zio_cksum.specs.Images.{Images};
 ghost use Rattle.zio_gang.specs.Attempts.{Pending};
@@ -24,7 +24,9 @@ ghost use Rattle.zio_course.specs.Runners.{
 };
 ghost use Rattle.zio_graph.specs.Ends.{told_of};
 ghost use Rattle.zio_graph.specs.Graphs.{CanRun, standing_of};
+ghost use Rattle.zio_graph.specs.Stable.{AreStable, KeepImages};
 
+use crate::flush::flush_grounds;
 use crate::tree::{EngineTree, tree_over, trees_of, wholes_of};
 use crate::wholes::run_wholes;
 use std::alloc::Global;
@@ -33,7 +35,7 @@ use zio_course::{ChildrenBack, Job, RoundEnd, Stop};
 use zio_disks::Setting;
 use zio_gang::Tree;
 use zio_nodes::NodeBox;
-use zio_outside::Disk;
+use zio_outside::{Disk, Failed, SyncDisk};
 use zio_script::Request;
 use zio_stages::Finished;
 use zio_turns::{DisksBack, Grounds, Picks};
@@ -179,6 +181,29 @@ impl<D: Disk + Drop, P: Picks + Drop> Graph<D, P> {
         ensures { result.items ≡ self.disks }
     {
         self.grounds.disks
+    }
+}
+
+impl<D: SyncDisk + Drop, P: Picks + Drop> Graph<D, P> {
+    /// Makes the images of all disks stable, also of those that no top names, in their order and up to the first that
+    /// fails. No image changes, and nothing else of the engine.
+    pub fn flush(&mut self) -> Result<(), Failed>
+        ensures stable { OnOk result ((images : Images) → Tell D.image self.old.disks images
+            → AreStable D.keeps self.new.disks images) }
+        ensures images { KeepImages D.image self.old.disks self.new.disks }
+        ensures failed { OnErr result (AnyRose (map D.faults self.old.disks) (map D.faults self.new.disks)) }
+        ensures steady { OnOk result (map D.faults self.new.disks ≡ map D.faults self.old.disks) }
+        ensures same { AreSameDisks D.bytes D.faults D.faults_at_fetch D.home D.image D.sound self.old.disks
+            self.new.disks }
+        ensures rest { self.new ≡ record {
+          setting = self.old.setting;
+          disks = self.new.disks;
+          live = self.old.live;
+          last = self.old.last;
+          stopped = self.old.stopped;
+        } }
+    {
+        flush_grounds(&mut self.grounds)
     }
 }
 

@@ -6,6 +6,7 @@
 #![tactic(auto)]
 
 mod ends;
+mod flush;
 mod graph;
 mod laws;
 mod runner;

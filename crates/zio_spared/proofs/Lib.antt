@@ -1,0 +1,16 @@
+pub mod CountLemmas
+pub mod CrashCopies
+pub mod DoneBefore
+pub mod ExampleMoves
+pub mod ExampleSound
+pub mod ExampleTurned
+pub mod FlightOrigins
+pub mod KeptBytes
+pub mod PieceOrigins
+pub mod RiskedCopies
+pub mod RoundSpares
+pub mod SparingHistory
+pub mod SparingReads
+pub mod SparingSteps
+pub mod TakenCopies
+pub mod WritesWithin

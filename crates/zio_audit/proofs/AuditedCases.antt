@@ -1,10 +1,9 @@
 -- What is audited, before any round is run: the leaves of a script's tops, and the images.
-use Rattle.std.proofs.Common.{◌≡◌, ◌<◌, ◌≤◌, ℕ, List, [], ◌∷◌, ◌++◌, length, map, take, subst, sym, refl, ap, ◌∙◌, arith}
+use Rattle.std.proofs.Common.{◌<◌, ◌≤◌, ℕ, List, [], ◌∷◌, ◌++◌, length, take, subst, arith}
 use Rattle.std.specs.List.{All, AllByRecursion}
 use Rattle.std.proofs.lemmas.List.{take_all}
 use Rattle.std.proofs.lemmas.List.Elements.{recursion_from_All}
 use Rattle.zio_cksum.proofs.AllLemmas.{all_append}
-use Rattle.zio_cksum.specs.Images.{Images}
 use Rattle.zio_script.specs.declared.script.Script.{Script}
 use Rattle.zio_script.specs.declared.script.ScriptFault.{ScriptFault}
 use Rattle.zio_script.specs.declared.script.TopLine.{TopLine}

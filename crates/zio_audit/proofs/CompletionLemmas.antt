@@ -1,9 +1,9 @@
 -- Whether spelled completions are lawful beside others that are: both have the same requests in the same rounds.
-use Rattle.std.proofs.Common.{◌≡◌, ◌<◌, ◌≤◌, ◌+◌, ℕ, zero, suc, List, [], ◌∷◌, ◌++◌, length, set, take, drop, get_or, cond, map, filter, refl, sym, ap, subst, ◌∙◌, arith, Bool, Option, Some, None, true, false, ⊎_elim, ◌==◌, ◌&&◌, ◌||◌, Contains}
+use Rattle.std.proofs.Common.{◌≡◌, ◌<◌, ◌+◌, ◌^◌, ℕ, zero, suc, List, [], ◌∷◌, ◌++◌, length, set, take, drop, cond, map, filter, refl, sym, ap, subst, ◌∙◌, arith, Bool, Option, Some, None, true, false, ⊎_elim, ◌==◌, ◌&&◌, ◌||◌, Contains}
 use Rattle.std.specs.Prelude.{IsTrue, fold, not, slice_get, ◌↔◌}
 use Rattle.std.specs.List.{AllByRecursion, list_all, list_any}
 use Rattle.std.proofs.lemmas.Bool.{and_from, and_parts, both_ways, eq-eqb, eqb-true, ne_eqb, not-true, not_from_false, or_parts, true_from_ne_false, true≢false}
-use Rattle.std.proofs.lemmas.List.{append-nil, at_drop_all, at_drop_more, drop_all, get_or-map, length-map, map-append, take_all}
+use Rattle.std.proofs.lemmas.List.{append-nil, drop_all, map-append, take_all}
 use Rattle.std.proofs.lemmas.List.Folds.{list_any-append}
 use Rattle.std.proofs.lemmas.Option.{same_Some, slice_get_within}
 use Rattle.zio_types.specs.declared.error.Errno.{Errno}
@@ -17,12 +17,10 @@ use Rattle.zio_script.specs.Requests.{is_under, is_under_number, requests_of}
 use Rattle.zio_gang.specs.Attempts.{Ended}
 use Rattle.zio_gang.specs.Journals.{AreCompletions, AreCompletionsOf, CompleteAfterChildren, CompleteOnce, completion_of, completions_in, is_child, is_round_of}
 use Rattle.zio_gang.specs.Runs.{Round}
-use Rattle.zio_spelled.specs.declared.rounds.RoundJournal.{RoundJournal}
 use Rattle.zio_audit.specs.declared.marks.Mark.{Mark}
 use Rattle.zio_audit.specs.declared.marks.Mark.TheVariants.{Never, Due, Met}
 use Rattle.zio_audit.specs.Marks.{AreMarksOf, AreParentsOf, due_in, is_due_with, is_settled, may_meet, meet_each, named, parent_after, parent_of}
 use Rattle.zio_audit.specs.Completions.{completion_spelled, completions_from, ended_in, first_error}
-use Rattle.zio_audit.specs.Verdicts.{orders_of}
 use Rattle.zio_audit.proofs.MeetLemmas.{HasMet, IsDueFor, IsMetAs, are_good, due_for, due_is, is_among, is_good, mark_of, meets, parent_done, requests_in}
 use Rattle.zio_audit.proofs.Members.{all_of, any_contained, contained_any, contained_cases, contains_flat, contains_kept, contains_mapped, flat_contains, kept_contains, map_contains, none_contained}
 
@@ -510,32 +508,15 @@ round_stops parents marks n (request ∷ order) rest none =
     stops_with (may_meet marks parents n request) (meet_each parents (set marks request Met) (map (named n) order)) (meet_each parents (set marks request Met) (map (named n) order ++ rest))
     none (λ further. round_stops parents (set marks request Met) n order rest further)
 
--- the next of the orders
-pub next_orders : (parents : List (Option ℕ)) (marks : List Mark) (orders : List (List ℕ)) (order : List ℕ) (i : ℕ) → i < length orders → order ≡ get_or orders i order
-    → meet_each parents marks (completions_from [] (i + 1) (drop i orders))
-    ≡ meet_each parents marks (map (named (i + 1)) order ++ completions_from [] (i + 1 + 1) (drop (i + 1) orders))
-next_orders parents marks orders order i below is =
-    at_drop_more (λ os. meet_each parents marks (completions_from [] (i + 1) os)) orders i order below
-    ∙ ap (λ o. meet_each parents marks (map (named (i + 1)) o ++ completions_from [] (i + 1 + 1) (drop (i + 1) orders))) (sym is)
-
-pub no_orders : (parents : List (Option ℕ)) (marks : List Mark) (orders : List (List ℕ)) (i : ℕ) → length orders ≤ i
-    → meet_each parents marks (completions_from [] (i + 1) (drop i orders)) ≡ Some marks
-no_orders parents marks orders i past = at_drop_all (λ os. meet_each parents marks (completions_from [] (i + 1) os)) orders i past
-
--- a round that was met
-pub step_met : (parents : List (Option ℕ)) (marks next : List Mark) (orders : List (List ℕ)) (order : List ℕ) (i round : ℕ) → round ≡ i → i < length orders → order ≡ get_or orders i order
-    → meet_each parents marks (map (named (round + 1)) order) ≡ Some next
-    → meet_each parents marks (completions_from [] (i + 1) (drop i orders)) ≡ meet_each parents next (completions_from [] (i + 1 + 1) (drop (i + 1) orders))
-step_met parents marks next orders order i round at below is met =
-    next_orders parents marks orders order i below is
-    ∙ round_next parents marks next (i + 1) order (completions_from [] (i + 1 + 1) (drop (i + 1) orders)) (subst (λ n. meet_each parents marks (map (named (n + 1)) order) ≡ Some next) at met)
+-- a round that was met, before these orders
+pub step_met : (parents : List (Option ℕ)) (marks next : List Mark) (order : List ℕ) (orders : List (List ℕ)) (round : ℕ) → meet_each parents marks (map (named (round + 1)) order) ≡ Some next
+    → meet_each parents marks (completions_from [] (round + 1) (order ∷ orders)) ≡ meet_each parents next (completions_from [] (round + 1 + 1) orders)
+step_met parents marks next order orders round met = round_next parents marks next (round + 1) order (completions_from [] (round + 1 + 1) orders) met
 
 -- a round that wasn't
-pub step_unmet : (parents : List (Option ℕ)) (marks : List Mark) (orders : List (List ℕ)) (order : List ℕ) (i round : ℕ) → round ≡ i → i < length orders → order ≡ get_or orders i order
-    → meet_each parents marks (map (named (round + 1)) order) ≡ None → meet_each parents marks (completions_from [] (i + 1) (drop i orders)) ≡ None
-step_unmet parents marks orders order i round at below is none =
-    next_orders parents marks orders order i below is
-    ∙ round_stops parents marks (i + 1) order (completions_from [] (i + 1 + 1) (drop (i + 1) orders)) (subst (λ n. meet_each parents marks (map (named (n + 1)) order) ≡ None) at none)
+pub step_unmet : (parents : List (Option ℕ)) (marks : List Mark) (order : List ℕ) (orders : List (List ℕ)) (round : ℕ) → meet_each parents marks (map (named (round + 1)) order) ≡ None
+    → meet_each parents marks (completions_from [] (round + 1) (order ∷ orders)) ≡ None
+step_unmet parents marks order orders round none = round_stops parents marks (round + 1) order (completions_from [] (round + 1 + 1) orders) none
 
 -- what is written through a slice of all of a table
 pub written : (len : ℕ) (new old : List Mark) → length new ≡ length old → length old ≡ len → take len (new ++ drop (length new) old) ≡ new
@@ -555,14 +536,9 @@ unmet_by read parents old marks seen order n is same so none =
     ap (λ (ps : List (Option ℕ)). meet_each ps marks (map (named n) order)) (sym is) ∙ ap (λ (ms : List Mark). meet_each read ms (map (named n) order)) (sym same)
     ∙ ap (λ (ns : List ℕ). meet_each read old (map (named n) ns)) (sym so) ∙ none
 
--- ---- the orders of some rounds' journals
+-- ---- how many rounds are left
 
-pub below_orders : (journals : List RoundJournal) (i : ℕ) → i < length journals → i < length (orders_of journals)
-below_orders journals i below = subst (λ (n : ℕ). i < n) (sym (length-map journals (λ (j : RoundJournal). j.order))) below
-
-pub past_orders : (journals : List RoundJournal) (i : ℕ) → length journals ≤ i → length (orders_of journals) ≤ i
-past_orders journals i past = subst (λ (n : ℕ). n ≤ i) (sym (length-map journals (λ (j : RoundJournal). j.order))) past
-
-pub order_at : (journals : List RoundJournal) (j : RoundJournal) (i : ℕ) → i < length journals → j ≡ get_or journals i j → j.order ≡ get_or (orders_of journals) i j.order
-order_at journals j i below is =
-    ap (λ (k : RoundJournal). k.order) is ∙ sym (get_or-map (λ (k : RoundJournal). k.order) journals i j j.order below)
+-- so many were read of them and so many are left: where those that are left are few, all are
+pub few_rounds : (read left all : ℕ) → read + left ≡ all → left < 2 ^ 32 → (0 < read → all < 2 ^ 32) → all < 2 ^ 32
+few_rounds zero left all is few before = omega arith
+few_rounds (suc read) left all is few before = before (omega arith)

@@ -1,6 +1,6 @@
 -- What is judged of a run by the entries that a report spells: of one that came to its end, and of one that was stopped.
 use Rattle.std.proofs.Common.{◌≡◌, ◌<◌, ℕ, List, [], ◌∷◌, ◌++◌, length, map, Bool, false, true, refl, sym, ap, ◌∙◌, subst, ⊎_elim, arith}
-use Rattle.std.specs.Prelude.{◌↔◌, IfOk, IsTrue, Result, Err, Ok, drop}
+use Rattle.std.specs.Prelude.{◌↔◌, IfOk, IfSome, IsTrue, Option, None, Some, Result, Err, Ok, drop}
 use Rattle.std.specs.List.{AllByRecursion, list_all}
 use Rattle.std.proofs.lemmas.Bool.{and_from, true≢false}
 use Rattle.std.proofs.lemmas.List.{append-nil, length-map}
@@ -12,14 +12,14 @@ use Rattle.zio_types.specs.Choices.{Choice}
 use Rattle.zio_types.specs.Places.{is_lawful_top}
 use Rattle.zio_outside.specs.declared.mem_disk.MemDisk.{MemDisk}
 use Rattle.zio_outside.specs.Memory.{IsSoundDisk, IsSteady-below_max, disk_fails, disk_faults, disk_image, told}
-use Rattle.zio_outside.specs.Outside.{AnyRose, Appends, Rose, count_max}
+use Rattle.zio_outside.specs.Outside.{AnyRose, Appends, count_max}
 use Rattle.zio_script.specs.declared.script.Item.{Item}
 use Rattle.zio_script.specs.declared.script.Script.{Script}
 use Rattle.zio_script.specs.declared.script.TopLine.{TopLine}
 use Rattle.zio_script.specs.Grammar.{IsScriptOf}
 use Rattle.zio_script.specs.Requests.{requests_of}
 use Rattle.zio_cksum.proofs.AllLemmas.{all_weaker}
-use Rattle.zio_cksum.specs.Images.{Images, Setting}
+use Rattle.zio_cksum.specs.Images.{Images as Leaves, Setting}
 use Rattle.zio_gang.specs.declared.ending.Ending.{Ending}
 use Rattle.zio_gang.specs.Journals.{AreCompletions, IsLawfulJournal}
 use Rattle.zio_gang.specs.Runs.{Event, Round, ending, rounds_of, run_script}
@@ -36,12 +36,14 @@ use Rattle.zio_command.specs.Outcomes.{HasLawfulSize}
 use Rattle.zio_course.specs.Course.{AreOfRounds}
 use Rattle.zio_audit.specs.Audits.{HasAuditedSize, sizes_in}
 use Rattle.zio_audit.specs.Completions.{completions_from}
-use Rattle.zio_audit.specs.Ended.{HasEnded, HasReplayed, IsAtStart, IsJudged}
+use Rattle.zio_audit.specs.Ended.{HasEnded, HasReplayed, IsAtStart, IsJudged, IsSeenOf}
 use Rattle.zio_audit.specs.PlainMatching.{HoldsCompared, compared}
 use Rattle.zio_audit.specs.Putting.{IsPutIn}
 use Rattle.zio_audit.specs.Replays.{AreSpelledIn}
+use Rattle.zio_audit.specs.Seen.{IsFirstOther, IsLineOrNext, byte_at}
 use Rattle.zio_audit.specs.Texts.{plain_text, shows_bytes, text_of_run}
 use Rattle.zio_audit.specs.Verdicts.{Case, HasCompletions, HasLawfulEntries, IsReadAs, IsScriptIn, IsTextOf, entries_of, journal_spelled, orders_of}
+use Rattle.zio_audit.specs.declared.seen.Seen.TheVariants.{Images, Text}
 use Rattle.zio_audit.specs.declared.verdict.Verdict.TheVariants.{Yes, No}
 use Rattle.zio_audit.specs.declared.plain_matcher.PlainMatcher.{PlainMatcher}
 use Rattle.zio_audit.proofs.AuditLemmas.{all_stand, no_completions, no_images, no_places, no_text}
@@ -52,7 +54,7 @@ use Rattle.zio_audit.proofs.TextLines.{run_lines_text}
 
 -- ---- disks in memory
 
-pub told_images : (disks : List MemDisk) (images : Images) → Tell (λ d. told (disk_image d)) disks images → images ≡ map disk_image disks
+pub told_images : (disks : List MemDisk) (images : Leaves) → Tell (λ d. told (disk_image d)) disks images → images ≡ map disk_image disks
 told_images [] [] tell = refl
 told_images [] (bytes ∷ images) tell = absurd tell
 told_images (d ∷ ds) [] tell = absurd tell
@@ -62,7 +64,7 @@ pub tell_images : (disks : List MemDisk) → Tell (λ d. told (disk_image d)) di
 tell_images [] = tt
 tell_images (d ∷ ds) = (refl, tell_images ds)
 
-pub sizes_told : (disks : List MemDisk) (images : Images) → images ≡ map disk_image disks → map length images ≡ sizes_in disks
+pub sizes_told : (disks : List MemDisk) (images : Leaves) → images ≡ map disk_image disks → map length images ≡ sizes_in disks
 sizes_told disks images is = ap (map length) is ∙ lengths disks
   where
     lengths : (ds : List MemDisk) → map length (map disk_image ds) ≡ sizes_in ds
@@ -81,7 +83,7 @@ none_rose (o ∷ os) (n ∷ ns) sound stay rose =
     ⊎_elim (λ one. ⊎_elim (λ (lt : disk_faults o < disk_faults n). Prim.omega (arith, lt, same)) (λ (at : disk_faults n ≡ count_max). Prim.omega (arith, at, below)) one)
     (none_rose os ns sound.1 stay.1) rose
 
-pub lawful_sizes : (disks : List MemDisk) (images : Images) → map disk_image disks ≡ images → AllByRecursion HasAuditedSize (map length images) → AllByRecursion HasLawfulSize (sizes_in disks)
+pub lawful_sizes : (disks : List MemDisk) (images : Leaves) → map disk_image disks ≡ images → AllByRecursion HasAuditedSize (map length images) → AllByRecursion HasLawfulSize (sizes_in disks)
 lawful_sizes disks images is audited =
     all_weaker HasAuditedSize HasLawfulSize (sizes_in disks) (λ n size. record { low = size.least; high = let most = size.most in omega arith })
     (subst (AllByRecursion HasAuditedSize) (sizes_told disks images (sym is)) audited)
@@ -103,7 +105,7 @@ all_came m text came h = subst (λ (front : List ℕ). HoldsCompared m (length t
 pub other_records : (bytes : Bool) (n : RunSize) (j k : Records) (events : List Event) (ending : Ending) → run_text (Report false bytes) n j events ending ≡ run_text (Report false bytes) n k events ending
 other_records bytes n j k events ending = sym (run_lines_text bytes n j events ending) ∙ run_lines_text bytes n k events ending
 
-module _ (c : Case) (script : Script) (journals : List RoundJournal) (bytes : Bool) (j : Journal) (after : Images) (printed : List ℕ) (end : Ending)
+module _ (c : Case) (script : Script) (journals : List RoundJournal) (bytes : Bool) (j : Journal) (after : Leaves) (printed : List ℕ) (end : Ending)
     (whole : IsWholeRun (Report false bytes) (run_size_of script c.before) script c.before j after printed end) (same : entries_of journals ≡ j.places) where
   pub run_lawful : HasLawfulEntries script c.before (journal_spelled script c.before journals)
   run_lawful = subst (λ (cs : List Choice). IsLawfulJournal (sizes_of (tops_of script c.before)) (rounds_of (run_script script c.before cs).events) cs) (sym same) whole.places
@@ -127,24 +129,24 @@ module _ (c : Case) (script : Script) (journals : List RoundJournal) (bytes : Bo
 
 pub replayed_whole : (show : Show) (script : Script) (journals : List RoundJournal) (olds news : List MemDisk) (images : ℕ) (old new : PlainMatcher) (j : Journal) (end : Ending)
     → images ≡ length olds → AreOfRounds (AreSpelledIn journals) j.rounds j.places
-    → ((before : Images) → Tell (λ d. told (disk_image d)) olds before → (after : Images) × (printed : List ℕ)
+    → ((before : Leaves) → Tell (λ d. told (disk_image d)) olds before → (after : Leaves) × (printed : List ℕ)
     × IsWholeRun show (record { tops = length script.tops; images = images; requests = length (requests_of script.items) }) script before j after printed end
     × Tell (λ d. told (disk_image d)) news after × Appends (HoldsCompared old) (HoldsCompared new) printed)
     → HasReplayed show script journals (map disk_image olds) (map disk_image news) old new j
 replayed_whole show script journals olds news images old new j end many of whole =
-    let before : Images = map disk_image olds in
+    let before : Leaves = map disk_image olds in
     let w = whole before (tell_images olds) in
     let count : images ≡ length before = many ∙ sym (length-map olds disk_image) in
     record {
       end = end;
       printed = w.1;
-      whole = subst (λ (a : Images). IsWholeRun show (run_size_of script before) script before j a w.1 end) (told_images news w.0 w.3)
+      whole = subst (λ (a : Leaves). IsWholeRun show (run_size_of script before) script before j a w.1 end) (told_images news w.0 w.3)
           (subst (λ (n : ℕ). IsWholeRun show (record { tops = length script.tops; images = n; requests = length (requests_of script.items) }) script before j w.0 w.1 end) count w.2);
       written = w.4;
       entries = of;
     }
 
-pub ended_of : (c : Case) (script : Script) (journals : List RoundJournal) (after : Images) (old new : PlainMatcher) (j : Journal)
+pub ended_of : (c : Case) (script : Script) (journals : List RoundJournal) (after : Leaves) (old new : PlainMatcher) (j : Journal)
     → HasReplayed (Report false (shows_bytes c.report)) script journals c.before after old new j → HoldsCompared old (compared (plain_text c.report) [])
     → HasEnded c script journals new j after
 ended_of c script journals after old new j h first = record {
@@ -181,40 +183,45 @@ pub if_ok : {T E : Type 0} (P Q : T → Type 0) (r : Result T E) → ((x : T) �
 if_ok P Q (Ok x) more h = more x h
 if_ok P Q (Err e) more h = tt
 
+pub if_some : {T : Type 0} (P Q : T → Type 0) (o : Option T) → ((x : T) → P x → Q x) → IfSome o P → IfSome o Q
+if_some P Q None more h = tt
+if_some P Q (Some x) more h = more x h
+
 -- ---- what is said of it
 
-module _ (script : Script) (report : List ℕ) (journals : List RoundJournal) (plain : PlainMatcher) (j : Journal) (left after : Images) where
-  pub judged_places : (behind : List RoundJournal) (has : Bool) → behind ≡ drop j.rounds journals → ((has ≡ false) ↔ AllByRecursion (λ (k : RoundJournal). k.entries ≡ []) behind) → has ≡ true
-      → IsJudged script report journals plain j left after (No 3)
-  judged_places behind has is exact is_true = λ c same_report same_after read ended.
-      no_places c script journals read
-      (some_behind c script journals read j ended.entries (course_behind script c.before j ended.whole.rounds) ended.whole.rounds
-      (λ none. true≢false (sym is_true ∙ exact.1 (subst (AllByRecursion (λ (k : RoundJournal). k.entries ≡ [])) (sym is) none))))
-
+module _ (script : Script) (report : List ℕ) (journals : List RoundJournal) (plain : PlainMatcher) (j : Journal) (left after : Leaves) where
   -- no entry is left over
   abbrev pub NoneBehind : Type 0
   NoneBehind = AllByRecursion (λ (k : RoundJournal). k.entries ≡ []) (drop j.rounds journals)
 
-  pub none_left : (behind : List RoundJournal) (has : Bool) → behind ≡ drop j.rounds journals → ((has ≡ false) ↔ AllByRecursion (λ (k : RoundJournal). k.entries ≡ []) behind) → has ≡ false → NoneBehind
-  none_left behind has is exact is_false = subst (AllByRecursion (λ (k : RoundJournal). k.entries ≡ [])) is (exact.0 is_false)
+  pub judged_places : ¬ NoneBehind → IsJudged script report journals plain j left after (No 3)
+  judged_places some = λ c same_report same_after read ended.
+      no_places c script journals read
+      (some_behind c script journals read j ended.entries (course_behind script c.before j ended.whole.rounds) ended.whole.rounds some)
 
   -- the answer of the call that compares completions
   abbrev pub IsMatched : Bool → Type 0
   IsMatched matched = (rounds : List Round) → AreCompletions (requests_of script.items) rounds j.completions
       → (IsTrue matched ↔ AreCompletions (requests_of script.items) rounds (completions_from rounds 1 (orders_of journals)))
 
-  pub matched_by : (items : List Item) (due : List Completion) (matched : Bool) → items ≡ script.items → due ≡ j.completions
+  pub matched_by : (items : List Item) (due : List Completion) (own : List RoundJournal) (matched : Bool) → items ≡ script.items → due ≡ j.completions → own ≡ journals
       → ((rounds : List Round) → AreCompletions (requests_of items) rounds due
-      → (IsTrue matched ↔ AreCompletions (requests_of items) rounds (completions_from rounds 1 (orders_of journals)))) → IsMatched matched
-  matched_by items due matched items_are due_is exact =
-      subst (λ (is : List Item). (rounds : List Round) → AreCompletions (requests_of is) rounds j.completions
-      → (IsTrue matched ↔ AreCompletions (requests_of is) rounds (completions_from rounds 1 (orders_of journals)))) items_are
+      → (IsTrue matched ↔ AreCompletions (requests_of items) rounds (completions_from rounds 1 (orders_of own)))) → IsMatched matched
+  matched_by items due own matched items_are due_is own_are exact =
+      subst (λ (js : List RoundJournal). (rounds : List Round) → AreCompletions (requests_of script.items) rounds j.completions
+      → (IsTrue matched ↔ AreCompletions (requests_of script.items) rounds (completions_from rounds 1 (orders_of js)))) own_are
+      (subst (λ (is : List Item). (rounds : List Round) → AreCompletions (requests_of is) rounds j.completions
+      → (IsTrue matched ↔ AreCompletions (requests_of is) rounds (completions_from rounds 1 (orders_of own)))) items_are
       (subst (λ (ds : List Completion). (rounds : List Round) → AreCompletions (requests_of items) rounds ds
-      → (IsTrue matched ↔ AreCompletions (requests_of items) rounds (completions_from rounds 1 (orders_of journals)))) due_is exact)
+      → (IsTrue matched ↔ AreCompletions (requests_of items) rounds (completions_from rounds 1 (orders_of own)))) due_is exact))
 
   -- that of the matcher of the plain text
   abbrev pub IsWholeText : Bool → Type 0
   IsWholeText whole = (text came : List ℕ) → HoldsCompared plain (compared text came) → (IsTrue whole ↔ (came ≡ text))
+
+  -- that of the comparer of what is put in
+  abbrev pub IsWholePut : Bool → Type 0
+  IsWholePut put = IsTrue put ↔ IsPutIn journals report
 
   module _ (none : NoneBehind) where
     same : (c : Case) → HasEnded c script journals plain j left → entries_of journals ≡ j.places
@@ -240,7 +247,7 @@ module _ (script : Script) (report : List ℕ) (journals : List RoundJournal) (p
       prints c ended = run_prints c script journals (shows_bytes c.report) j left ended.printed ended.end ended.whole (same c ended)
 
       -- the text stands exactly where the plain text came, and the journals are put in
-      text_stands : (whole put : Bool) → IsWholeText whole → (IsTrue put ↔ IsPutIn journals report) → whole ≡ true → put ≡ true → (c : Case) → c.report ≡ report → IsReadAs c script journals
+      text_stands : (whole put : Bool) → IsWholeText whole → IsWholePut put → whole ≡ true → put ≡ true → (c : Case) → c.report ≡ report → IsReadAs c script journals
           → HasEnded c script journals plain j left → IsTextOf script c.before (journal_spelled script c.before journals) c.report
       text_stands whole put text puts came is_put c same_report read ended =
           (text_decided c script journals read).1
@@ -251,21 +258,38 @@ module _ (script : Script) (report : List ℕ) (journals : List RoundJournal) (p
           no_text c script journals read (lawful c ended) (completes c ended)
           (λ is. true≢false (sym ((text (plain_text c.report) ended.printed ended.came).1 (prints c ended ∙ sym ((text_decided c script journals read).0 is).1)) ∙ is_false))
 
-      pub judged_put : (put : Bool) → (IsTrue put ↔ IsPutIn journals report) → put ≡ false → IsJudged script report journals plain j left after (No 5)
+      pub judged_put : (put : Bool) → IsWholePut put → put ≡ false → IsJudged script report journals plain j left after (No 5)
       judged_put put puts is_false = λ c same_report same_after read ended.
           no_text c script journals read (lawful c ended) (completes c ended)
           (λ is. true≢false (sym (puts.1 (subst (IsPutIn journals) same_report ((text_decided c script journals read).0 is).0)) ∙ is_false))
 
-      module _ (whole put : Bool) (text : IsWholeText whole) (puts : IsTrue put ↔ IsPutIn journals report) (came : whole ≡ true) (is_put : put ≡ true) where
-        leaves : (c : Case) (ended : HasEnded c script journals plain j left) → left ≡ (course_of script c.before (journal_spelled script c.before journals)).state.images
-        leaves c ended = run_leaves c script journals (shows_bytes c.report) j left ended.printed ended.end ended.whole (same c ended)
+      leaves : (c : Case) (ended : HasEnded c script journals plain j left) → left ≡ (course_of script c.before (journal_spelled script c.before journals)).state.images
+      leaves c ended = run_leaves c script journals (shows_bytes c.report) j left ended.printed ended.end ended.whole (same c ended)
 
-        pub judged_images : (held : Bool) → (IsTrue held ↔ (after ≡ left)) → held ≡ false → IsJudged script report journals plain j left after (No 6)
-        judged_images held holds is_false = λ c same_report same_after read ended.
+      pub seen_images : (image byte : ℕ) → IsFirstOther after left image byte → IsSeenOf script report journals plain j left after (Images image byte)
+      seen_images image byte first = λ c same_report same_after read ended. record {
+        script = script;
+        journals = journals;
+        read = read;
+        stands = subst (λ (is : Leaves). IsFirstOther c.after is image byte) (leaves c ended) (subst (λ (is : Leaves). IsFirstOther is left image byte) (sym same_after) first);
+      }
+
+      module _ (whole put : Bool) (text : IsWholeText whole) (puts : IsWholePut put) (came : whole ≡ true) (is_put : put ≡ true) where
+        pub judged_images : ¬ (after ≡ left) → IsJudged script report journals plain j left after (No 6)
+        judged_images other = λ c same_report same_after read ended.
             no_images c script journals read (lawful c ended) (completes c ended) (text_stands whole put text puts came is_put c same_report read ended)
-            (λ is. true≢false (sym (holds.1 (sym same_after ∙ is ∙ sym (leaves c ended))) ∙ is_false))
+            (λ is. other (sym same_after ∙ is ∙ sym (leaves c ended)))
 
-        pub judged_yes : (held : Bool) → (IsTrue held ↔ (after ≡ left)) → held ≡ true → IsJudged script report journals plain j left after Yes
-        judged_yes held holds yes_held = λ c same_report same_after read ended.
+        pub judged_yes : after ≡ left → IsJudged script report journals plain j left after Yes
+        judged_yes held = λ c same_report same_after read ended.
             all_stand c script journals read (lawful c ended) (completes c ended) (text_stands whole put text puts came is_put c same_report read ended)
-            (same_after ∙ holds.0 yes_held ∙ leaves c ended)
+            (same_after ∙ held ∙ leaves c ended)
+
+-- ---- where it was seen
+
+pub others_differ : (some others : Leaves) (image byte : ℕ) → IsFirstOther some others image byte → ¬ (some ≡ others)
+others_differ some others image byte first same = first.other (ap (λ (is : Leaves). byte_at is image byte) same)
+
+pub seen_line : (script : Script) (report : List ℕ) (journals : List RoundJournal) (plain : PlainMatcher) (j : Journal) (left after : Leaves) (line : ℕ) → IsLineOrNext report line
+    → IsSeenOf script report journals plain j left after (Text line)
+seen_line script report journals plain j left after line is = λ c same_report same_after read ended. subst (λ (r : List ℕ). IsLineOrNext r line) (sym same_report) is

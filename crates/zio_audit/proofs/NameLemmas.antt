@@ -23,7 +23,7 @@ use Rattle.zio_gang.specs.Journals.{HaveDistinctKeys, asks_of}
 use Rattle.zio_gang.proofs.JournalLemmas.{same_key_itself}
 use Rattle.zio_audit.specs.declared.index.Name.{Name}
 use Rattle.zio_audit.specs.Names.{IsIndexOf, at_name, entry_at, has_key, is_head, name_cmp, name_of}
-use Rattle.zio_audit.specs.Recordings.{recorded_for}
+use Rattle.zio_audit.specs.Replays.{recorded_for}
 
 -- ---- keys
 

@@ -18,11 +18,10 @@ use Rattle.zio_blocks.specs.Choosers.{IsFoundEntry}
 use Rattle.zio_blocks.specs.EntryLaws.{are_lawful_same}
 use Rattle.zio_plain.specs.Entries.{AreEntriesFor, AreTermsFrom, HaveRunOn}
 use Rattle.zio_spelled.specs.declared.rounds.RoundJournal.{RoundJournal}
-use Rattle.zio_audit.specs.Recordings.{recorded_for, unplaced}
-use Rattle.zio_audit.specs.ReplayIndex.{IsKeptReplay, SeenIndex}
-use Rattle.zio_audit.specs.Replays.{AreReplayed, ChoseSpelled, MatchEntries, MayBeChoices, entries_in, is_found, reply_by, reply_to}
+use Rattle.zio_audit.specs.ReplayIndex.{IsKeptReplay, SeenRound}
+use Rattle.zio_audit.specs.Replays.{AreReplayed, ChoseSpelled, MatchEntries, MayBeChoices, entries_in, is_found, recorded_for, reply_by, reply_to, unplaced}
 use Rattle.zio_audit.proofs.NameLemmas.{ask_is}
-use Rattle.zio_audit.proofs.RecordedLemmas.{all_choices, found_here, taken_unplaced, unplaced_found}
+use Rattle.zio_audit.proofs.EntryLemmas.{all_choices, found_here, taken_unplaced, unplaced_found}
 use Rattle.zio_audit.proofs.ReplyLemmas.{asks_alike, choices_matched, is_found_entry, matched_asked, replies_are, some_copies}
 
 -- ---- an answer
@@ -60,15 +59,15 @@ reply_lawful journals tops u ask entry some is =
 
 -- ---- what is kept
 
-pub kept_space : (journals own : List RoundJournal) (old new : SpaceState) (tops : List TopSize) (index : Option SeenIndex) → IsKeptReplay journals own old tops index → IsSound new → new.sizes ≡ old.sizes
-    → IsKeptReplay journals own new tops index
-kept_space journals own old new tops index kept sound sizes = record {
+pub kept_space : (journals own : List RoundJournal) (old new : SpaceState) (tops : List TopSize) (of_round : Option SeenRound) → IsKeptReplay journals own old tops of_round → IsSound new → new.sizes ≡ old.sizes
+    → IsKeptReplay journals own new tops of_round
+kept_space journals own old new tops of_round kept sound sizes = record {
   journals_are = kept.journals_are;
   sizes = kept.sizes ∙ sym sizes;
   lawful = kept.lawful;
   few = kept.few;
   sound = sound;
-  indexed = kept.indexed;
+  of_round_is = kept.of_round_is;
 }
 
 -- ---- a round

@@ -23,12 +23,11 @@ use Rattle.zio_blocks.specs.Choosers.{IsFound, IsFoundEntry, taken_by_all}
 use Rattle.zio_blocks.specs.EntryLaws.{found_all, taken_open}
 use Rattle.zio_plain.specs.Entries.{HaveRunOn}
 use Rattle.zio_spelled.specs.declared.rounds.RoundJournal.{RoundJournal}
-use Rattle.zio_audit.specs.Recordings.{AreAllAsked, recorded_for, unplaced}
-use Rattle.zio_audit.specs.Replays.{AreReplies, MatchEntries, MayBeChoices, entries_in, has_entry, is_found, reply_by}
+use Rattle.zio_audit.specs.Replays.{AreReplies, MatchEntries, MayBeChoices, entries_in, has_entry, is_found, recorded_for, reply_by, unplaced}
 use Rattle.zio_audit.proofs.ChosenLemmas.{ChooseAlike, settle_alike}
 use Rattle.zio_audit.proofs.Members.{all_of, contained_cases, contains_flat, contains_mapped, flat_contains, none_contained}
 use Rattle.zio_audit.proofs.NameLemmas.{ask_is}
-use Rattle.zio_audit.proofs.RecordedLemmas.{each_given, found_here, no_more, taken_unplaced}
+use Rattle.zio_audit.proofs.EntryLemmas.{AreAllAsked, each_given, found_here, no_more, taken_unplaced}
 
 -- ---- lists
 

@@ -1,5 +1,5 @@
 -- What is read back of a run's text is the run's journal, round by round.
-use Rattle.std.proofs.Common.{◌≡◌, ◌≢◌, ◌<◌, ◌≤◌, ◌+◌, ◌%◌, ◌==◌, ◌^◌, ◌++◌, ℕ, zero, suc, List, [], ◌∷◌, length, map, filter, refl, sym, ap, subst, ◌∙◌, true, false, cond, arith, ⊎_elim, ◌⊎◌, inl, inr, eqb-true, ne_eqb, Option, Some, None, Contains}
+use Rattle.std.proofs.Common.{◌≡◌, ◌<◌, ◌≤◌, ◌+◌, ◌%◌, ◌==◌, ◌^◌, ◌++◌, ℕ, zero, suc, List, [], ◌∷◌, length, map, filter, refl, sym, ap, subst, ◌∙◌, true, cond, arith, ⊎_elim, ◌⊎◌, inl, inr, eqb-true, ne_eqb, Option, Some, None, Contains}
 use Rattle.std.specs.Prelude.{IsTrue, slice_get}
 use Rattle.std.specs.List.{AllByRecursion, list_any}
 use Rattle.std.proofs.lemmas.Bool.{and_parts, cases_order, or_cases, true≢false}

@@ -1,5 +1,5 @@
 -- A run by the entries that a report spells, from its start to its end, and what is said of it.
-use Rattle.std.specs.Prelude.{◌≡◌, ℕ, List, [], Bool, false, length, map}
+use Rattle.std.specs.Prelude.{◌≡◌, ℕ, List, Bool, false, length, map}
 use Rattle.std.specs.List.{AllByRecursion}
 use Rattle.zio_types.specs.declared.journal.Journal.{Journal}
 use Rattle.zio_outside.specs.declared.mem_disk.MemDisk.{MemDisk}
@@ -13,11 +13,13 @@ use Rattle.zio_report.specs.declared.report.Show.TheVariants.{Report}
 use Rattle.zio_report.specs.Meanings.{IsWholeRun, run_size_of, tops_of}
 use Rattle.zio_spelled.specs.declared.rounds.RoundJournal.{RoundJournal}
 use Rattle.zio_course.specs.Course.{AreOfRounds}
+use Rattle.zio_audit.specs.declared.seen.Seen.{Seen}
 use Rattle.zio_audit.specs.declared.plain_matcher.PlainMatcher.{PlainMatcher}
 use Rattle.zio_audit.specs.declared.verdict.Verdict.{Verdict}
 use Rattle.zio_audit.specs.Audits.{sizes_in}
 use Rattle.zio_audit.specs.PlainMatching.{HoldsCompared, compared}
 use Rattle.zio_audit.specs.Replays.{AreSpelledIn}
+use Rattle.zio_audit.specs.Seen.{IsSeenIn}
 use Rattle.zio_audit.specs.Texts.{plain_text, shows_bytes}
 use Rattle.zio_audit.specs.Verdicts.{Case, IsReadAs, IsVerdict}
 
@@ -51,3 +53,9 @@ abbrev pub IsJudged : Script → List ℕ → List RoundJournal → PlainMatcher
 IsJudged script report journals plain j left after verdict =
     (c : Case) → c.report ≡ report → c.after ≡ after → IsReadAs c script journals → HasEnded c script journals plain j left
     → IsVerdict c verdict
+
+-- and this is where the reason was seen
+abbrev pub IsSeenOf : Script → List ℕ → List RoundJournal → PlainMatcher → Journal → Images → Images → Seen → Type 0
+IsSeenOf script report journals plain j left after seen =
+    (c : Case) → c.report ≡ report → c.after ≡ after → IsReadAs c script journals → HasEnded c script journals plain j left
+    → IsSeenIn c seen

@@ -9,7 +9,7 @@ use Rattle.zio_types.specs.Places.{SamePlaces, are_open}
 use Rattle.zio_cksum.proofs.AllLemmas.{all_append}
 use Rattle.zio_blocks.specs.Choosers.{IsFoundEntry, taken_by_all}
 use Rattle.zio_plain.specs.GroundPlaces.{open_then}
-use Rattle.zio_audit.specs.Recordings.{AreFound}
+use Rattle.zio_audit.specs.Replays.{AreFound}
 
 pub found_then : (tops : List TopSize) (before now : List Place) (entries more : List Choice) → AreFound tops before entries → SamePlaces now (taken_by_all entries ++ before) → AreFound tops now more
     → AreFound tops before (entries ++ more)

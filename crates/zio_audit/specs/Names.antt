@@ -1,8 +1,7 @@
 -- How recorded entries are sought by their keys. It is the chooser's own; nothing of it has to be believed.
-use Rattle.std.specs.Prelude.{◌≡◌, ℕ, ◌<◌, List, length, find, slice_get, Bool, true, false, Option, Some, None, IfSome, Contains}
+use Rattle.std.specs.Prelude.{◌≡◌, ℕ, ◌<◌, List, length, find, slice_get, Bool, true, false, Option, Some, None, IfSome}
 use Rattle.std.specs.BTreeMap.{is_at}
 use Rattle.std.specs.Cmp.Lexicographic.{slice_cmp}
-use Rattle.std.specs.List.{AllByRecursion}
 use Rattle.std.specs.Map.{lookup}
 use Rattle.std.specs.Ordering.{bool_cmp, nat_cmp, ordering_then}
 use Rattle.std.specs.declared.cmp.Ordering.{Ordering}
@@ -11,11 +10,7 @@ use Rattle.zio_types.specs.declared.journal.Role.{Role}
 use Rattle.zio_types.specs.declared.journal.Role.TheVariants.{Body, Head}
 use Rattle.zio_types.specs.Choices.{Choice, same_key}
 use Rattle.zio_types.specs.Filled.{filled_to}
-use Rattle.zio_places.specs.Spaces.{IsSound}
-use Rattle.zio_gang.specs.Journals.{HaveDistinctKeys, asks_of}
-use Rattle.zio_blocks.specs.Choosers.{IsFoundEntry}
 use Rattle.zio_audit.specs.declared.index.Name.{Name}
-use Rattle.zio_audit.specs.Recordings.{SeenRecorded}
 
 -- whether a header is asked for
 abbrev pub is_head : Role → Bool
@@ -54,12 +49,3 @@ has_key key c = same_key c.asked.key key
 pub record IsIndexOf (index : List (Name × ℕ)) (all front : List Choice) : Type 0 where
   pub found : (key : Key) → entry_at all (at_name index (name_of key)) ≡ find (has_key key) front
   pub below : (key : Key) → IfSome (at_name index (name_of key)) (λ at. at < length all)
-
--- what holds of the chooser
-pub record IsKept (r : SeenRecorded) (index : List (Name × ℕ)) : Type 0 where
-  pub sound : IsSound r.space
-  pub found : AllByRecursion (IsFoundEntry r.space.sizes) r.entries
-  pub distinct : HaveDistinctKeys (asks_of r.entries)
-  pub indexed : IsIndexOf index r.entries r.entries
-  pub faithful : r.faithful ≡ true → AllByRecursion (Contains r.entries) r.given
-  pub strange : r.faithful ≡ false → ¬ AllByRecursion (Contains r.entries) r.given

@@ -3,8 +3,11 @@ use Rattle.std.specs.Prelude.{◌≡◌, ℕ, List, [], ◌∷◌, ◌++◌, len
 use Rattle.zio_report.specs.Lines.{as_line}
 use Rattle.zio_audit.specs.declared.plain_matcher.PlainMatcher.{PlainMatcher}
 use Rattle.zio_audit.specs.declared.plain_matcher.Rest.{Rest}
-use Rattle.zio_audit.specs.Matching.{IsFrontOf}
 use Rattle.zio_audit.specs.Texts.{plain_text}
+
+-- the text begins with these bytes
+abbrev pub IsFrontOf : List ℕ → List ℕ → Type 0
+IsFrontOf held text = (rest : List ℕ) × (text ≡ held ++ rest)
 
 -- the text is what came and then what is left of it, or where nothing is left to compare other bytes came
 abbrev pub IsLeftOf : List ℕ → Option (List ℕ) → List ℕ → Type 0

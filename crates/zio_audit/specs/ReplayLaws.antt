@@ -10,8 +10,7 @@ use Rattle.zio_blocks.specs.Choosers.{taken_by_all}
 use Rattle.zio_blocks.specs.EntryLaws.{SamePlaces-swap}
 use Rattle.zio_spelled.specs.declared.rounds.RoundJournal.{RoundJournal}
 use Rattle.zio_audit.specs.FoundLaws.{found_then}
-use Rattle.zio_audit.specs.Recordings.{recorded_for, unplaced}
-use Rattle.zio_audit.specs.Replays.{AreReplayed, AreReplies, entries_in, is_found, reply_by}
+use Rattle.zio_audit.specs.Replays.{AreReplayed, AreReplies, entries_in, is_found, recorded_for, reply_by, unplaced}
 
 either_true : (a b : Bool) → (a ≡ true → b ≡ true) → (b ≡ true → a ≡ true) → a ≡ b
 either_true true b h k = sym (h refl)

@@ -1,19 +1,19 @@
 -- The asks of all rounds, answered by the entries that a report spells of each.
-use Rattle.std.specs.Prelude.{◌≡◌, ◌≤◌, ◌-◌, ℕ, List, [], ◌∷◌, ◌++◌, cond, length, nat_le, slice_get, Bool, true, ◌&&◌, Option, Some, None, is_some}
-use Rattle.std.specs.List.{list_all}
+use Rattle.std.specs.Prelude.{◌≡◌, ◌≤◌, ◌-◌, ℕ, List, [], ◌∷◌, ◌++◌, cond, find, length, nat_le, slice_get, Bool, true, ◌&&◌, Option, Some, None, is_some}
+use Rattle.std.specs.List.{AllByRecursion, list_all}
 use Rattle.zio_types.specs.declared.place.Place.{Place}
 use Rattle.zio_types.specs.declared.place.TopSize.{TopSize}
-use Rattle.zio_types.specs.Choices.{Ask, Choice, taken_by}
+use Rattle.zio_types.specs.Choices.{Ask, Choice, same_ask, taken_by}
 use Rattle.zio_types.specs.Places.{are_open, fits_size, is_inside}
 use Rattle.zio_cksum.specs.Images.{Images}
 use Rattle.zio_gang.specs.Attempts.{Pending, Terms}
 use Rattle.zio_gang.specs.Journals.{AreChoicesOf, AreLawful, HaveDistinctKeys, asks_of}
 use Rattle.zio_gang.specs.Rounds.{settle_each}
 use Rattle.zio_gang.specs.Trees.{sizes_of}
+use Rattle.zio_blocks.specs.Choosers.{IsFoundEntry, taken_by_all}
 use Rattle.zio_places.specs.Ordered.{all_placed_in}
 use Rattle.zio_places.specs.Spaces.{SpaceState, used}
 use Rattle.zio_spelled.specs.declared.rounds.RoundJournal.{RoundJournal}
-use Rattle.zio_audit.specs.Recordings.{AreFound, recorded_for, unplaced}
 
 abbrev pub entries_if : Option RoundJournal → List Choice
 entries_if None = []
@@ -28,6 +28,14 @@ abbrev pub AreSpelledIn : List RoundJournal → ℕ → List Choice → Type 0
 AreSpelledIn journals round entries = entries ≡ entries_in journals round
 
 -- ---- answers
+
+-- the entry under the ask's key, where size and copies are the same too
+abbrev pub recorded_for : List Choice → Ask → Option Choice
+recorded_for entries ask = find (λ (c : Choice). same_ask c.asked ask) entries
+
+-- none of the copies has a place
+abbrev pub unplaced : Ask → Choice
+unplaced ask = record { asked = ask; places = [] }
 
 -- it has no more places than copies, and each may hold a copy
 abbrev pub is_found : List TopSize → Choice → Bool
@@ -48,7 +56,13 @@ AreReplies journals tops before [] = Unit {0}
 AreReplies journals tops before (c ∷ cs) =
     (1 ≤ c.asked.copies) × (c ≡ reply_to journals tops before c.asked) × AreReplies journals tops (taken_by c ++ before) cs
 
--- what answers meet that are given one after another
+-- What answers meet that are given one after another: each is what an entry is, and what they take wasn't in use, and no
+-- two places of it meet. They needn't be lawful in the order of the asks.
+pub record AreFound (tops : List TopSize) (before : List Place) (entries : List Choice) : Type 0 where
+  pub each : AllByRecursion (IsFoundEntry tops) entries
+  pub free : are_open before (taken_by_all entries) ≡ true
+
+-- and each is what its ask is answered
 pub record AreReplayed (journals : List RoundJournal) (tops : List TopSize) (before : List Place) (entries : List Choice) : Type 0 where
   pub found : AreFound tops before entries
   pub replies : AreReplies journals tops before entries

@@ -1,25 +1,23 @@
 //! The audit of a finished run.
 
-ghost use Rattle.std.specs.Prelude.{◌≡◌, ◌≤◌, ◌++◌, IfOk, List as Seq, MatchOption, OnOk, length, map, true};
-ghost use Rattle.std.specs.List.{AllByRecursion, list_all};
-ghost use Rattle.zio_types.specs.Places.{is_lawful_top};
+ghost use Rattle.std.specs.Prelude.{◌≡◌, ◌++◌, IfOk, IfSome, OnOk, map};
+ghost use Rattle.std.specs.List.{AllByRecursion};
 ghost use Rattle.zio_script.specs.Grammar.{IsScriptOf};
 ghost use Rattle.zio_outside.specs.Memory.{IsSoundDisk, disk_image};
 ghost use Rattle.zio_gang.specs.Trees.{sizes_of};
-ghost use Rattle.zio_spelled.specs.Rounds.{IsSpelled};
-ghost use Rattle.zio_spelled.specs.declared.count.TheConstants.{REPORT_LEN_MAX};
-ghost use Rattle.zio_spelled.specs.declared.rounds.RoundJournal.{RoundJournal as SeenJournal};
 ghost use Rattle.zio_audit.specs.Audits.{AreNew, MayBeAudited};
+ghost use Rattle.zio_audit.specs.Seen.{IsSeenIn, verdict_of};
 ghost use Rattle.zio_audit.specs.Verdicts.{IsVerdict};
 
 use crate::run::judge_run;
-use crate::verdict::{Verdict, Why};
+use crate::seen::{Seen, verdict_of};
+use crate::shapes::first_faulty;
+use crate::verdict::Verdict;
 use std::alloc::Global;
 use std::marker::Brand;
 use zio_command::{TopsFault, pool_over};
 use zio_outside::MemDisk;
 use zio_script::{Script, ScriptError, read_script};
-use zio_spelled::{JournalFault, RoundJournal, Rounds};
 use zio_types::{Bytes, List, NoMemory, Rest, Top, TopSize};
 
 /// The most bytes of an image that is audited.
@@ -74,9 +72,40 @@ pub fn audit_over(
       after = after.now;
     })) }
 {
+    let seen = audit_seen(alloc, script, report, before, after)?;
+    Ok(verdict_of(seen))
+}
+
+/// The same, with the place where the first reason to say no was seen; none is yes.
+pub fn audit_seen(
+    alloc: Global,
+    script: &[u8],
+    report: &[u8],
+    before: Vec<Bytes>,
+    after: &[Bytes],
+) -> Result<Option<Seen>, NoMemory>
+    requires { MayBeAudited (record {
+      script = script.now;
+      report = report.now;
+      before = before.items;
+      after = after.now;
+    }) }
+    ensures verdict { IfOk result (λ seen. IsVerdict (record {
+      script = script.now;
+      report = report.now;
+      before = before.items;
+      after = after.now;
+    }) (verdict_of seen)) }
+    ensures place { IfOk result (λ seen. IfSome seen (IsSeenIn (record {
+      script = script.now;
+      report = report.now;
+      before = before.items;
+      after = after.now;
+    }))) }
+{
     match read_script(alloc, script) {
         Ok(read) => audit_script(alloc, script, &read, report, before, after),
-        Err(ScriptError::Fault(_)) => Ok(Verdict::no(Why::Script)),
+        Err(ScriptError::Fault(fault)) => Ok(Some(Seen::Script { line: fault.line })),
         Err(ScriptError::Memory) => Err(NoMemory),
     }
 }
@@ -89,7 +118,7 @@ fn audit_script(
     report: &[u8],
     before: Vec<Bytes>,
     after: &[Bytes],
-) -> Result<Verdict, NoMemory>
+) -> Result<Option<Seen>, NoMemory>
     requires may { MayBeAudited (record {
       script = text.now;
       report = report.now;
@@ -97,34 +126,39 @@ fn audit_script(
       after = after.now;
     }) }
     requires script { IsScriptOf text.now script.now }
-    ensures { IfOk result (IsVerdict (record {
+    ensures verdict { IfOk result (λ seen. IsVerdict (record {
       script = text.now;
       report = report.now;
       before = before.items;
       after = after.now;
-    })) }
+    }) (verdict_of seen)) }
+    ensures place { IfOk result (λ seen. IfSome seen (IsSeenIn (record {
+      script = text.now;
+      report = report.now;
+      before = before.items;
+      after = after.now;
+    }))) }
 {
     let disks = disks_of(alloc, before)?;
     let (setting, tops) = match pool_over(alloc, script, disks.as_slice()) {
         Ok(pool) => pool,
-        Err(TopsFault::Leaf(_)) => return Ok(Verdict::no(Why::Script)),
+        Err(TopsFault::Leaf(leaf)) => return Ok(Some(Seen::Leaf { leaf })),
         Err(TopsFault::Memory) => return Err(NoMemory),
     };
     let sizes = sizes_of(alloc, tops.as_slice())?;
-    let Some(journals) = journals_of(alloc, sizes.as_slice(), report)? else {
-        return Ok(Verdict::no(Why::Lines));
-    };
-    judge_run::<Brand>(
-        alloc,
-        text,
-        script,
-        report,
-        setting,
-        sizes,
-        disks,
-        journals.as_slice(),
-        after,
-    )
+    match first_faulty(alloc, report)? {
+        Some(line) => Ok(Some(Seen::Lines { line })),
+        None => judge_run::<Brand>(
+            alloc,
+            text,
+            script,
+            report,
+            setting,
+            sizes.as_slice(),
+            disks,
+            after,
+        ),
+    }
 }
 
 // The same images once more.
@@ -178,35 +212,4 @@ fn sizes_of(alloc: Global, tops: &[Top]) -> Result<List<TopSize>, NoMemory>
         })?;
     }
     Ok(sizes)
-}
-
-// The journal that a report spells of each round, none where a line isn't of its shape or stands before every round.
-fn journals_of(
-    alloc: Global,
-    tops: &[TopSize],
-    report: &[u8],
-) -> Result<Option<List<RoundJournal>>, NoMemory>
-    requires lawful { list_all is_lawful_top tops.now ≡ true }
-    requires short { length report.now ≤ REPORT_LEN_MAX }
-    ensures { IfOk result (λ spelled. MatchOption spelled
-        ((journals : Seq SeenJournal) → ¬ IsSpelled tops.now report.now journals)
-        (IsSpelled tops.now report.now)) }
-{
-    let Some(all) = Rounds::of(report) else {
-        return Ok(None);
-    };
-    let mut rounds = all;
-    let mut journals = List::new(alloc);
-    let mut number = 1;
-    loop {
-        match rounds.next_round(alloc, tops, number) {
-            Ok(None) => return Ok(Some(journals)),
-            Ok(Some(journal)) => {
-                journals.push(journal)?;
-                number += 1;
-            }
-            Err(JournalFault::Faulty) => return Ok(None),
-            Err(JournalFault::Memory) => return Err(NoMemory),
-        }
-    }
 }

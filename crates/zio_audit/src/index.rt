@@ -1,7 +1,9 @@
 //! Where a round's entries stand, by their keys.
 ghost use Rattle.std.specs.Prelude.{◌≡◌, IfOk, MatchOption, find, option_copied};
+ghost use Rattle.zio_types.specs.Choices.{same_ask, same_key};
 ghost use Rattle.zio_gang.specs.Journals.{HaveDistinctKeys, asks_of};
 ghost use Rattle.zio_audit.specs.Names.{IsIndexOf, has_key, is_head, name_of};
+ghost use Rattle.zio_audit.specs.Replays.{recorded_for};
 
 use std::alloc::Global;
 use std::collections::BTreeMap;
@@ -65,8 +67,8 @@ pub(crate) fn index_of(
     Ok(Some(index))
 }
 
-/// The entry with the key, if there is one.
-pub(crate) fn entry_with<'a>(
+// The entry with the key, if there is one.
+fn entry_with<'a>(
     index: &BTreeMap<Name, usize>,
     entries: &'a [Entry],
     key: &Key,
@@ -78,4 +80,54 @@ pub(crate) fn entry_with<'a>(
         Some(at) => entries.get(*at),
         None => None,
     }
+}
+
+/// The entry under the key, where size and copies are the same too.
+pub(crate) fn entry_for<'a>(
+    index: &BTreeMap<Name, usize>,
+    entries: &'a [Entry],
+    key: &Key,
+    size: u32,
+    copies: u32,
+) -> Option<&'a Entry>
+    requires distinct { HaveDistinctKeys (asks_of entries.now) }
+    requires index { IsIndexOf index.now.entries entries.now entries.now }
+    ensures { option_copied result
+        ≡ recorded_for entries.now (record { key = key.now; size = size; copies = copies }) }
+{
+    let Some(entry) = entry_with(index, entries, key) else {
+        return None;
+    };
+    if entry.size == size && entry.copies == copies {
+        Some(entry)
+    } else {
+        None
+    }
+}
+
+/// The same, sought without an index.
+pub(crate) fn entry_among<'a>(
+    entries: &'a [Entry],
+    key: &Key,
+    size: u32,
+    copies: u32,
+) -> Option<&'a Entry>
+    ensures { option_copied result
+        ≡ recorded_for entries.now (record { key = key.now; size = size; copies = copies }) }
+{
+    entries
+        .iter()
+        .find(|entry| is_same_ask(entry, key, size, copies))
+}
+
+fn is_same_ask(entry: &Entry, key: &Key, size: u32, copies: u32) -> bool
+    ensures { result ≡ same_ask entry.now.asked (record { key = key.now; size = size; copies = copies }) }
+{
+    is_same_key(&entry.key, key) && entry.size == size && entry.copies == copies
+}
+
+fn is_same_key(one: &Key, other: &Key) -> bool
+    ensures { result ≡ same_key one.now other.now }
+{
+    name_of(one).cmp(&name_of(other)).is_eq()
 }

@@ -1,5 +1,5 @@
 //! Laws of the definitions: functions without a body, whose contracts are proved.
-ghost use Rattle.zio_audit.specs.Laws.{AllAskedAreChoices, AllAskedIsARound, ChoicesAreRecorded, OneVerdict, ShapedIsSpelled, SpelledByRounds, SpelledIsShaped, YesIsARun};
+ghost use Rattle.zio_audit.specs.Laws.{OneVerdict, ShapedIsSpelled, SpelledByRounds, SpelledIsShaped, YesIsARun};
 ghost use Rattle.zio_audit.specs.Texts.{PrintedIsReadBack, PutInIsTheText, TextIsDecided, YesIsAHeadline};
 
 /// A report spells a journal exactly where its lines of the journal are of their shapes, and behind a round.
@@ -17,14 +17,6 @@ pub fn spelled_entries_are_of_their_rounds()
 pub fn verdicts_are_one()
     ensures yes { YesIsARun }
     ensures one { OneVerdict }
-{}
-
-/// Entries that are recorded and are a round's answers are its choices for what it asked for, and no others are; and
-/// the round that was run with these answers is that of the definitions.
-pub fn answers_are_choices()
-    ensures asked { AllAskedAreChoices }
-    ensures recorded { ChoicesAreRecorded }
-    ensures round { AllAskedIsARound }
 {}
 
 /// A report is the text of a run with its journal exactly where its journals are put in as a run prints them, and its

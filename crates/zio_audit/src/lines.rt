@@ -1,7 +1,7 @@
 //! The lines of a report, and which are of its journal.
 ghost use Rattle.std.specs.Prelude.{◌≡◌, ◌∷◌, ◌<◌, [], IfSome, MatchOption, length};
 ghost use Rattle.zio_script.specs.Words.{lines_of};
-ghost use Rattle.zio_spelled.specs.Spelled.{first_word, is_journal, is_round};
+ghost use Rattle.zio_spelled.specs.Spelled.{first_word, is_journal, is_order, is_round, is_take};
 ghost use Rattle.zio_audit.specs.Putting.{is_close};
 
 /// The first line of the text without its newline, and what follows it; none where the text is empty.
@@ -53,6 +53,26 @@ pub(crate) fn is_journal(line: &[u8]) -> bool
 {
     match first_word(line) {
         b"take" | b"order" => true,
+        _ => false,
+    }
+}
+
+/// The line of an entry.
+pub(crate) fn is_take(line: &[u8]) -> bool
+    ensures { result ≡ is_take line.now }
+{
+    match first_word(line) {
+        b"take" => true,
+        _ => false,
+    }
+}
+
+/// The line of completions.
+pub(crate) fn is_order(line: &[u8]) -> bool
+    ensures { result ≡ is_order line.now }
+{
+    match first_word(line) {
+        b"order" => true,
         _ => false,
     }
 }

@@ -1,5 +1,5 @@
 //! Which requests are due in which round, and which of them were met, by the numbers of the requests.
-ghost use Rattle.std.specs.Prelude.{◌≡◌, ◌<◌, ◌≤◌, ◌^◌, IfOk, MatchBool, None, Some, drop, length, map, slice_get, slice_set};
+ghost use Rattle.std.specs.Prelude.{◌≡◌, ◌<◌, ◌≤◌, ◌^◌, IfOk, MatchBool, None, Some, drop, is_none, length, map, slice_get, slice_set};
 ghost use Rattle.std.specs.List.{AllByRecursion, list_all};
 ghost use Rattle.zio_types.specs.declared.journal.Completion.{Completion as SeenCompletion};
 ghost use Rattle.zio_audit.specs.Marks.{AreMarksOf, AreParentsOf, is_due_with, is_met, is_settled, may_meet, meet_each, named, parent_met};
@@ -110,9 +110,23 @@ pub(crate) fn meet_round(
     true
 }
 
-/// Whether nothing is due any more.
-pub(crate) fn is_all_settled(marks: &[Mark]) -> bool
-    ensures { result ≡ list_all is_settled marks.now }
+/// The least round in which a request is still due, none where nothing is due any more.
+pub(crate) fn least_due(marks: &[Mark]) -> Option<u64>
+    ensures { is_none result ≡ list_all is_settled marks.now }
 {
-    marks.iter().all(|mark| !matches!(mark, Mark::Due(_)))
+    let mut least = None;
+    for mark in marks {
+        if let Mark::Due(round) = mark {
+            least = Some(lesser(least, u64::from(*round)));
+        }
+    }
+    least
+}
+
+/// The lesser of the two, or this one where there is no other.
+pub(crate) fn lesser(one: Option<u64>, other: u64) -> u64 {
+    match one {
+        Some(one) => one.min(other),
+        None => other,
+    }
 }

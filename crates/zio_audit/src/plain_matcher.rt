@@ -44,6 +44,29 @@ impl<'a> Rest<'a> {
         Some(rest)
     }
 
+    // How many bytes of the report follow the line in which something else than the piece stands, none where the
+    // report ends before it.
+    fn left_at(self, piece: &[u8]) -> Option<usize> {
+        let mut rest = self;
+        let mut piece = piece;
+        while !piece.is_empty() {
+            let Some((next, more)) = rest.behind_run(piece) else {
+                return rest.left();
+            };
+            rest = next;
+            piece = more;
+        }
+        rest.left()
+    }
+
+    // How many bytes follow the line that is to come next, none where there is no such line.
+    fn left(self) -> Option<usize> {
+        match self.next() {
+            Some((_, behind)) => Some(behind.len()),
+            None => None,
+        }
+    }
+
     // Goes on behind a run of the piece, within one line, and gives what follows the run in the piece; none where
     // something else stands there.
     fn behind_run<'b>(self, piece: &'b [u8]) -> Option<(Rest<'a>, &'b [u8])>
@@ -90,12 +113,22 @@ fn behind_newline<'a, 'b>(behind: &'a [u8], piece: &'b [u8]) -> Option<(Rest<'a>
     }
 }
 
+// Where the piece came and nothing is left to compare, how many bytes follow the line in which it differs.
+fn left_behind(now: Option<Rest<'_>>, before: Rest<'_>, piece: &[u8]) -> Option<usize> {
+    match now {
+        Some(_) => None,
+        None => before.left_at(piece),
+    }
+}
+
 /// Compares the bytes that it is given with a report's lines that are none of the journal, each with its newline, and
 /// keeps none of them. It never fails, and goes over the report once.
 #[derive(Clone, Copy)]
 pub struct PlainMatcher<'a> {
     /// What is left to compare, none where other bytes came.
     rest: Option<Rest<'a>>,
+    /// How many bytes of the report follow the line in which other bytes came, none where the report ends before it.
+    left: Option<usize>,
 }
 
 impl<'a> PlainMatcher<'a> {
@@ -108,6 +141,7 @@ impl<'a> PlainMatcher<'a> {
                 line: None,
                 behind: report,
             }),
+            left: None,
         }
     }
 
@@ -119,6 +153,15 @@ impl<'a> PlainMatcher<'a> {
         match self.rest {
             Some(rest) => rest.next().is_none(),
             None => false,
+        }
+    }
+
+    /// Of a text that isn't whole: how many bytes of the report follow the first line that is another, none where the
+    /// report ends before it.
+    pub fn left(&self) -> Option<usize> {
+        match self.rest {
+            Some(rest) => rest.left(),
+            None => self.left,
         }
     }
 }
@@ -133,6 +176,7 @@ impl Sink for PlainMatcher<'_> {
     fn write(&mut self, piece: &[u8]) -> Result<(), Failed> {
         if let Some(rest) = self.rest {
             self.rest = rest.behind(piece);
+            self.left = left_behind(self.rest, rest, piece);
         }
         Ok(())
     }

@@ -7,6 +7,7 @@ ghost use Rattle.zio_spelled.specs.Spelled.{first_of, is_round};
 ghost use Rattle.zio_audit.specs.Marks.{named};
 ghost use Rattle.zio_audit.specs.Putting.{Fits, IsText, no_head, plain_lines, put_in, rest_of, text_of};
 
+use crate::differing::first_other_byte;
 use crate::lines::{is_close, is_journal, is_round, next_line};
 use std::alloc::Global;
 use zio_report::{RoundHead, Show, render};
@@ -78,6 +79,8 @@ pub struct PutIn<'a> {
     lines: &'a [u8],
     /// What isn't compared yet, none where a difference was met.
     rest: Option<&'a [u8]>,
+    /// How many bytes follow the first that differs, none where the report ends before it.
+    left: Option<usize>,
 }
 
 impl<'a> PutIn<'a> {
@@ -89,6 +92,7 @@ impl<'a> PutIn<'a> {
         PutIn {
             lines: report,
             rest: Some(report),
+            left: None,
         }
     }
 
@@ -123,6 +127,15 @@ impl<'a> PutIn<'a> {
         match self.rest {
             Some(rest) => rest.is_empty(),
             None => false,
+        }
+    }
+
+    /// Where it isn't whole: how many bytes of the report follow the first that differs, none where the report ends
+    /// before it.
+    pub fn left(&self) -> Option<usize> {
+        match self.rest {
+            Some(rest) => rest.len().checked_sub(1),
+            None => self.left,
         }
     }
 
@@ -168,7 +181,9 @@ impl<'a> PutIn<'a> {
         ensures passed { (more : List ℕ) → IsText (rest_of self.old) (text.now ++ more)
             ↔ IsText (rest_of self.new) more }
     {
-        self.rest = behind(self.rest, text);
+        let rest = self.rest;
+        self.rest = behind(rest, text);
+        self.left = left_behind(self.left, rest, self.rest, text);
     }
 }
 
@@ -179,6 +194,27 @@ fn behind<'a>(rest: Option<&'a [u8]>, text: &[u8]) -> Option<&'a [u8]>
 {
     match rest {
         Some(rest) => rest.strip_prefix(text),
+        None => None,
+    }
+}
+
+// How many bytes follow the first that differs, where the text was the first to be met otherwise.
+fn left_behind(
+    left: Option<usize>,
+    before: Option<&[u8]>,
+    now: Option<&[u8]>,
+    text: &[u8],
+) -> Option<usize> {
+    match (before, now) {
+        (Some(rest), None) => left_of(rest, text),
+        _ => left,
+    }
+}
+
+// How many bytes follow the first in which this begins otherwise than with the text, none where it ends before it.
+fn left_of(rest: &[u8], text: &[u8]) -> Option<usize> {
+    match first_other_byte(rest, text) {
+        Some(at) => rest.len().checked_sub(at + 1),
         None => None,
     }
 }

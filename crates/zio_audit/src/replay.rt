@@ -7,12 +7,12 @@ ghost use Rattle.zio_disks.specs.Trees.{BearsTops};
 ghost use Rattle.zio_blocks.specs.Blocks.{HavePointers};
 ghost use Rattle.zio_audit.specs.Replays.{AreSpelledIn, ChoseSpelled, MayBeChoices, entries_in};
 
+use crate::journals::Journals;
 use crate::replayed::{Replayed, Spelled};
 use std::alloc::Global;
 use zio_disks::Setting;
 use zio_outside::Disk;
 use zio_plain::{EntriesFault, Plain, RoundEntries};
-use zio_spelled::RoundJournal;
 use zio_types::{Entry, List, NoMemory, TopSize};
 
 /// A runner over disks that bear the tops, which runs the rounds of a script by the entries that a report spells of
@@ -21,20 +21,20 @@ pub fn replay_over<'a, D: Disk + Drop, K: Spelled>(
     alloc: Global,
     setting: Setting,
     disks: Vec<D>,
-    tops: List<TopSize>,
-    journals: &'a [RoundJournal],
+    tops: &'a [TopSize],
+    journals: Journals<'a>,
 ) -> Result<Plain<D, Replayed<'a, K>, AsSpelled>, NoMemory>
     requires bears { BearsTops setting (map D.bytes disks.items) }
     requires pointers { HavePointers setting.tops }
-    requires tops { tops ≡ sizes_of setting.tops }
-    requires lawful { list_all is_lawful_top tops ≡ true }
-    requires few { length tops < 2 ^ 32 }
-    requires journals { journals.now ≡ K.journals }
+    requires tops { tops.now ≡ sizes_of setting.tops }
+    requires lawful { list_all is_lawful_top tops.now ≡ true }
+    requires few { length tops.now < 2 ^ 32 }
+    requires journals { journals ≡ K.journals }
     ensures { IfOk result (λ runner. runner ≡ record {
       setting = setting;
       disks = disks.items;
       chooser = record {
-        space = record { sizes = tops; live = []; pending = []; entries = []; spare = 0 };
+        space = record { sizes = tops.now; live = []; pending = []; entries = []; spare = 0 };
         given = [];
       };
       last = 0;

@@ -1,18 +1,17 @@
 //! A chooser of places for all rounds of a run, which answers by the entries that a report spells.
-ghost use Rattle.std.specs.Prelude.{◌≡◌, ◌++◌, ◌∷◌, ◌↔◌, ◌&&◌, ◌<◌, ◌^◌, ◌≤◌, [], IfOk, IfSome, IsErrOf, IsTrue, List as Seq, MatchOption, OnErr, OnOk, Some, false, length, option_copied, true};
+ghost use Rattle.std.specs.Prelude.{◌≡◌, ◌++◌, ◌∷◌, ◌↔◌, ◌<◌, ◌^◌, ◌≤◌, [], IfOk, IsErrOf, IsTrue, List as Seq, MatchOption, OnErr, OnOk, length, option_copied, true};
 ghost use Rattle.std.specs.List.{AllByRecursion, list_all};
 ghost use Rattle.zio_types.specs.declared.place.Place.{Place as SeenPlace};
-ghost use Rattle.zio_types.specs.Choices.{same_ask, same_key, taken_by};
-ghost use Rattle.zio_types.specs.Places.{are_open, fits_size, is_inside, is_lawful_top};
-ghost use Rattle.zio_places.specs.Ordered.{all_placed_in};
+ghost use Rattle.zio_types.specs.Places.{is_lawful_top};
+ghost use Rattle.zio_gang.specs.Journals.{HaveDistinctKeys, asks_of};
 ghost use Rattle.zio_places.specs.Spaces.{IsSound, used};
 ghost use Rattle.zio_spelled.specs.declared.rounds.RoundJournal.{RoundJournal as SeenJournal};
-ghost use Rattle.zio_audit.specs.Recordings.{recorded_for};
-ghost use Rattle.zio_audit.specs.Replays.{IsReplied, MatchEntries, MayBeChoices, entries_in, has_entry, is_found};
+ghost use Rattle.zio_audit.specs.Replays.{IsReplied, MatchEntries, MayBeChoices, entries_in, has_entry, recorded_for};
 
-use crate::index::{Name, index_of, name_of};
-use crate::judge::{are_lawful, fits, places_of};
-use crate::recorded::{answer_of, entry_for, take_entry};
+use crate::index::{Name, entry_among, entry_for, index_of};
+use crate::journals::{Journals, Numbered};
+use crate::judge::are_lawful;
+use crate::taking::{answer_of, take_found};
 use std::alloc::Global;
 use std::collections::BTreeMap;
 use std::marker::{Brand, Model, PhantomData};
@@ -20,7 +19,6 @@ use std::mem;
 use zio_blocks::{Chooser, Unclaimed};
 use zio_places::Space;
 use zio_plain::EntriesFault;
-use zio_spelled::RoundJournal;
 use zio_types::{Entry, Key, List, NoMemory, Place, TopSize};
 
 /// What a report spells of each round. Whoever replays a run picks it.
@@ -32,29 +30,95 @@ impl Spelled for Brand {
     ghost journals = { [] };
 }
 
-// Where the entries of one round stand.
+// The entries of one round, and where each stands. Contracts see the number of the round and its entries.
 #[derive(Drop)]
-struct RoundIndex {
-    round: u32,
-    places: BTreeMap<Name, usize>,
+struct OfRound {
+    number: u32,
+    all: List<Entry>,
+    index: BTreeMap<Name, usize>,
 }
 
-/// Answers the asks of all rounds by the entries that a report spells of them, in whatever order they are asked for.
-/// Contracts see it as the space on which places are claimed, and the answers of the round so far.
+impl Model for OfRound {
+    ghost use Rattle.zio_audit.specs.ReplayIndex.{IsIndexed, SeenRound};
+
+    ghost Value = { SeenRound };
+
+    ghost view = { λ r. record { number = r.number; all = r.all } };
+
+    ghost invariant = { λ r. IsIndexed r.all r.index.entries };
+}
+
+impl OfRound {
+    // None exactly where a key stands twice.
+    fn of(alloc: Global, number: u32, all: List<Entry>) -> Result<Option<OfRound>, NoMemory>
+        ensures { IfOk result (λ made. MatchOption made
+            (¬ HaveDistinctKeys (asks_of all))
+            (λ of. HaveDistinctKeys (asks_of all) × (of ≡ record { number = number; all = all }))) }
+    {
+        match index_of(alloc, all.as_slice())? {
+            Some(index) => Ok(Some(OfRound { number, all, index })),
+            None => Ok(None),
+        }
+    }
+
+    fn is_of(&self, number: u32) -> bool
+        ensures { IsTrue result ↔ (self.now.number ≡ number) }
+    {
+        self.number == number
+    }
+
+    fn entries(&self) -> &[Entry]
+        ensures { result.now ≡ self.now.all }
+    {
+        self.all.as_slice()
+    }
+
+    // The entry for an ask, if there is one.
+    fn entry_for(&self, key: &Key, size: u32, copies: u32) -> Option<&Entry>
+        ensures { option_copied result ≡ recorded_for self.now.all
+            (record { key = key.now; size = size; copies = copies }) }
+    {
+        entry_for(&self.index, self.all.as_slice(), key, size, copies)
+    }
+
+    fn has_entry(&self, given: &Entry) -> bool
+        ensures { result ≡ has_entry self.now.all given.now }
+    {
+        self.entry_for(&given.key, given.size, given.copies)
+            .is_some()
+    }
+
+    fn have_entries(&self, given: &[Entry]) -> bool
+        ensures { result ≡ list_all (has_entry self.now.all) given.now }
+    {
+        given.iter().all(|entry| self.has_entry(entry))
+    }
+
+    // Whether these are as many as the entries, and each has an entry.
+    fn match_given(&self, given: &[Entry]) -> bool
+        ensures { IsTrue result ↔ MatchEntries self.now.all given.now }
+    {
+        given.len() == self.all.len() && self.have_entries(given)
+    }
+}
+
+/// Answers the asks of all rounds by the entries that a report spells of them, in whatever order they are asked for. It
+/// holds the entries of one round. Contracts see it as the space on which places are claimed, and the answers of the
+/// round so far.
 #[derive(Drop)]
 pub struct Replayed<'a, K: Spelled> {
     alloc: Global,
     space: Space,
-    tops: List<TopSize>,
-    journals: &'a [RoundJournal],
-    /// Of the round that was begun last.
-    index: Option<RoundIndex>,
+    tops: &'a [TopSize],
+    journals: Numbered<'a>,
+    /// The round that was begun last.
+    of_round: Option<OfRound>,
     given: Vec<Entry>,
     of: PhantomData<K>,
 }
 
 impl<'a, K: Spelled> Model for Replayed<'a, K> {
-    ghost use Rattle.std.specs.Prelude.{◌≡◌, option_map};
+    ghost use Rattle.std.specs.Prelude.{◌≡◌};
     ghost use Rattle.zio_audit.specs.Replays.{SeenReplayed};
     ghost use Rattle.zio_audit.specs.ReplayIndex.{IsKeptReplay};
 
@@ -62,60 +126,55 @@ impl<'a, K: Spelled> Model for Replayed<'a, K> {
 
     ghost view = { λ r. record { space = r.space; given = r.given.items } };
 
-    ghost invariant = { λ r. IsKeptReplay K.journals r.journals.now r.space r.tops
-        (option_map (λ x. record { round = x.round; places = x.places.entries }) r.index) };
+    ghost invariant = { λ r. IsKeptReplay K.journals r.journals r.space r.tops.now r.of_round };
 }
 
 impl<'a, K: Spelled> Replayed<'a, K> {
     /// On these tops, which are all free.
     pub fn new(
         alloc: Global,
-        tops: List<TopSize>,
-        journals: &'a [RoundJournal],
+        tops: &'a [TopSize],
+        journals: Journals<'a>,
     ) -> Result<Replayed<'a, K>, NoMemory>
-        requires journals { journals.now ≡ K.journals }
-        requires few { length tops < 2 ^ 32 }
-        requires lawful { list_all is_lawful_top tops ≡ true }
+        requires journals { journals ≡ K.journals }
+        requires few { length tops.now < 2 ^ 32 }
+        requires lawful { list_all is_lawful_top tops.now ≡ true }
         ensures { IfOk result (λ made. made ≡ record {
-          space = record { sizes = tops; live = []; pending = []; entries = []; spare = 0 };
+          space = record { sizes = tops.now; live = []; pending = []; entries = []; spare = 0 };
           given = [];
         }) }
     {
-        let mut space = Space::new(alloc, tops.as_slice())?;
+        let mut space = Space::new(alloc, tops)?;
         space.close_round();
         Ok(Replayed {
             alloc,
             space,
             tops,
-            journals,
-            index: None,
+            journals: Numbered::of(journals),
+            of_round: None,
             given: Vec::new(alloc),
             of: PhantomData,
         })
     }
 
-    // The entries that the report spells of this round.
-    fn entries_of(&self, round: u32) -> &'a [Entry]
-        ensures { result.now ≡ entries_in K.journals round }
-    {
-        match self.journals.get((round as usize).saturating_sub(1)) {
-            Some(journal) => journal.entries.as_slice(),
-            None => &[],
-        }
-    }
-
     // The entry of this round for an ask, if there is one.
-    fn entry_in(&self, round: u32, key: &Key, size: u32, copies: u32) -> Option<&'a Entry>
-        ensures { option_copied result ≡ recorded_for (entries_in K.journals round)
-            (record { key = key.now; size = size; copies = copies }) }
+    fn entry_in(
+        &self,
+        round: u32,
+        key: &Key,
+        size: u32,
+        copies: u32,
+    ) -> Result<Option<Entry>, NoMemory>
+        ensures { IfOk result (λ entry. entry ≡ recorded_for (entries_in K.journals round)
+            (record { key = key.now; size = size; copies = copies })) }
     {
-        let entries = self.entries_of(round);
-        if let Some(index) = &self.index {
-            if index.round == round {
-                return entry_for(&index.places, entries, key, size, copies);
+        if let Some(of) = &self.of_round {
+            if of.is_of(round) {
+                return Ok(copied_entry(of.entry_for(key, size, copies)));
             }
         }
-        entry_among(entries, key, size, copies)
+        let entries = self.journals.entries_again(self.alloc, round)?;
+        Ok(copied_entry(entry_among(entries.as_slice(), key, size, copies)))
     }
 
     /// Answers an ask with its round's entry under its key, where size and copies are the same too, each of its places
@@ -128,14 +187,15 @@ impl<'a, K: Spelled> Replayed<'a, K> {
         ensures sound { IsSound self.new.space }
     {
         self.given.reserve(1)?;
-        let recorded = self.entry_in(key.round, &key, size, copies);
-        let taken = take_found(&mut self.space, self.tops.as_slice(), recorded)?;
+        let recorded = self.entry_in(key.round, &key, size, copies)?;
+        let taken = take_found(&mut self.space, self.tops, recorded.as_ref())?;
         let entry = answer_of(taken, key, size, copies);
         self.given.push_reserved(entry.copy());
         Ok(entry)
     }
 
-    /// Begins a round: its entries are strange where they can't be choices beside the places in use.
+    /// Begins a round: its entries are strange where they can't be choices beside the places in use. Those of the round
+    /// before are let go.
     pub(crate) fn begin_round(&mut self, round: u32) -> Result<(), EntriesFault>
         ensures may { OnOk result (MayBeChoices self.old.space.sizes (used self.old.space)
             (entries_in K.journals round)) }
@@ -143,41 +203,24 @@ impl<'a, K: Spelled> Replayed<'a, K> {
             → ¬ MayBeChoices self.old.space.sizes (used self.old.space) (entries_in K.journals round) }
         ensures same { OnOk result (self.new ≡ self.old) }
     {
-        let entries = self.entries_of(round);
-        let lawful = are_lawful(&mut self.space, self.tops.as_slice(), entries);
-        match lawful {
+        self.of_round = None;
+        let entries = match self.journals.entries_of(self.alloc, round) {
+            Ok(entries) => entries,
+            Err(NoMemory) => return Err(EntriesFault::Memory),
+        };
+        match are_lawful(&mut self.space, self.tops, entries.as_slice()) {
             Ok(true) => {}
             Ok(false) => return Err(EntriesFault::Strange),
             Err(NoMemory) => return Err(EntriesFault::Memory),
         }
-        match index_of(self.alloc, entries) {
-            Ok(Some(places)) => {
-                self.index = Some(RoundIndex { round, places });
+        match OfRound::of(self.alloc, round, entries) {
+            Ok(Some(of)) => {
+                self.of_round = Some(of);
                 Ok(())
             }
             Ok(None) => Err(EntriesFault::Strange),
             Err(NoMemory) => Err(EntriesFault::Memory),
         }
-    }
-
-    // Whether these are as many as the entries of the round, and each has an entry.
-    fn match_entries(&self, round: u32, given: &[Entry]) -> bool
-        ensures { IsTrue result ↔ MatchEntries (entries_in K.journals round) given.now }
-    {
-        given.len() == self.entries_of(round).len() && self.have_entries(round, given)
-    }
-
-    fn have_entries(&self, round: u32, given: &[Entry]) -> bool
-        ensures { result ≡ list_all (has_entry (entries_in K.journals round)) given.now }
-    {
-        given.iter().all(|entry| self.has_entry(round, entry))
-    }
-
-    fn has_entry(&self, round: u32, given: &Entry) -> bool
-        ensures { result ≡ has_entry (entries_in K.journals round) given.now }
-    {
-        self.entry_in(round, &given.key, given.size, given.copies)
-            .is_some()
     }
 
     /// The entries of a round in which these answers were given: strange where it gave another number of answers, or
@@ -191,14 +234,62 @@ impl<'a, K: Spelled> Replayed<'a, K> {
             × MatchEntries (entries_in K.journals round) given) }
         ensures strange { IsErrOf result EntriesFault.Strange → ¬ MatchEntries (entries_in K.journals round) given }
     {
-        if !self.match_entries(round, given.as_slice()) {
-            return Err(EntriesFault::Strange);
+        if let Some(of) = &self.of_round {
+            if of.is_of(round) {
+                return matched(self.alloc, of, given);
+            }
         }
-        match copied(self.alloc, self.entries_of(round)) {
-            Ok(entries) => Ok(entries),
+        match self.journals.entries_again(self.alloc, round) {
+            Ok(entries) => matched_among(entries, given.as_slice()),
             Err(NoMemory) => Err(EntriesFault::Memory),
         }
     }
+}
+
+// The entries of the round, where these match them.
+fn matched(alloc: Global, of: &OfRound, given: List<Entry>) -> Result<List<Entry>, EntriesFault>
+    ensures entries { IfOk result (λ its. (its ≡ of.now.all) × MatchEntries of.now.all given) }
+    ensures strange { IsErrOf result EntriesFault.Strange → ¬ MatchEntries of.now.all given }
+{
+    if !of.match_given(given.as_slice()) {
+        return Err(EntriesFault::Strange);
+    }
+    // What was given isn't needed any more, so the entries take its place.
+    drop(given);
+    match copied(alloc, of.entries()) {
+        Ok(entries) => Ok(entries),
+        Err(NoMemory) => Err(EntriesFault::Memory),
+    }
+}
+
+// The same of a round that wasn't begun last, which is never asked for in a run.
+fn matched_among(entries: List<Entry>, given: &[Entry]) -> Result<List<Entry>, EntriesFault>
+    ensures entries { IfOk result (λ its. (its ≡ entries) × MatchEntries entries given.now) }
+    ensures strange { IsErrOf result EntriesFault.Strange → ¬ MatchEntries entries given.now }
+{
+    if match_among(entries.as_slice(), given) {
+        Ok(entries)
+    } else {
+        Err(EntriesFault::Strange)
+    }
+}
+
+fn match_among(entries: &[Entry], given: &[Entry]) -> bool
+    ensures { IsTrue result ↔ MatchEntries entries.now given.now }
+{
+    given.len() == entries.len() && have_among(entries, given)
+}
+
+fn have_among(entries: &[Entry], given: &[Entry]) -> bool
+    ensures { result ≡ list_all (has_entry entries.now) given.now }
+{
+    given.iter().all(|entry| has_among(entries, entry))
+}
+
+fn has_among(entries: &[Entry], given: &Entry) -> bool
+    ensures { result ≡ has_entry entries.now given.now }
+{
+    entry_among(entries, &given.key, given.size, given.copies).is_some()
 }
 
 fn copied(alloc: Global, entries: &[Entry]) -> Result<List<Entry>, NoMemory>
@@ -211,90 +302,13 @@ fn copied(alloc: Global, entries: &[Entry]) -> Result<List<Entry>, NoMemory>
     Ok(copy)
 }
 
-fn is_same_key(one: &Key, other: &Key) -> bool
-    ensures { result ≡ same_key one.now other.now }
+fn copied_entry(entry: Option<&Entry>) -> Option<Entry>
+    ensures { result ≡ option_copied entry.entry }
 {
-    name_of(one).cmp(&name_of(other)).is_eq()
-}
-
-fn is_same_ask(entry: &Entry, key: &Key, size: u32, copies: u32) -> bool
-    ensures { result ≡ same_ask entry.now.asked (record { key = key.now; size = size; copies = copies }) }
-{
-    is_same_key(&entry.key, key) && entry.size == size && entry.copies == copies
-}
-
-// The entry for an ask, sought without an index.
-fn entry_among<'a>(entries: &'a [Entry], key: &Key, size: u32, copies: u32) -> Option<&'a Entry>
-    ensures { option_copied result
-        ≡ recorded_for entries.now (record { key = key.now; size = size; copies = copies }) }
-{
-    entries
-        .iter()
-        .find(|entry| is_same_ask(entry, key, size, copies))
-}
-
-// The place lies inside its top.
-fn is_inside(tops: &[TopSize], place: &Place) -> bool
-    ensures { result ≡ is_inside tops.now place.now }
-{
-    match tops.get(place.top as usize) {
-        Some(top) => {
-            let sectors = u64::from(place.sectors);
-            sectors > 0 && sectors <= top.sectors && place.sector <= top.sectors - sectors
-        }
-        None => false,
+    match entry {
+        Some(entry) => Some(entry.copy()),
+        None => None,
     }
-}
-
-// The entry has no more places than copies, and each may hold a copy.
-fn is_found(tops: &[TopSize], entry: &Entry) -> bool
-    requires { list_all is_lawful_top tops.now ≡ true }
-    ensures { result ≡ is_found tops.now entry.now }
-{
-    let places = places_of(entry);
-    places.len() <= entry.copies as usize && may_all_hold(tops, entry.size, places)
-}
-
-fn may_all_hold(tops: &[TopSize], size: u32, places: &[Place]) -> bool
-    requires { list_all is_lawful_top tops.now ≡ true }
-    ensures { result ≡ list_all (λ p. fits_size tops.now size p && is_inside tops.now p) places.now }
-{
-    places.iter().all(|place| may_hold(tops, size, place))
-}
-
-// The place may hold a copy.
-fn may_hold(tops: &[TopSize], size: u32, place: &Place) -> bool
-    requires { list_all is_lawful_top tops.now ≡ true }
-    ensures { result ≡ (fits_size tops.now size place.now && is_inside tops.now place.now) }
-{
-    fits(tops, size, place) && is_inside(tops, place)
-}
-
-// Uses what the entry takes, if there is one, its places may hold copies, and it is open; then it gives it once more.
-fn take_found(
-    space: &mut Space,
-    tops: &[TopSize],
-    entry: Option<&Entry>,
-) -> Result<Option<Entry>, NoMemory>
-    requires sizes { tops.now ≡ space.old.sizes }
-    requires lawful { list_all is_lawful_top tops.now ≡ true }
-    requires sound { IsSound space.old }
-    ensures taken { IfOk result (λ taken. MatchOption taken
-        ((space.new ≡ space.old) × IfSome (option_copied entry.entry)
-        (λ e. (is_found tops.now e && are_open (used space.old) (taken_by e)) ≡ false))
-        (λ e. (option_copied entry.entry ≡ Some e)
-        × ((is_found tops.now e && are_open (used space.old) (taken_by e)) ≡ true)
-        × (space.new ≡ record space.old { live = all_placed_in (taken_by e) space.old.live }))) }
-    ensures err { OnErr result (space.new ≡ space.old) }
-    ensures sound { IsSound space.new }
-{
-    let Some(entry) = entry else {
-        return Ok(None);
-    };
-    if !is_found(tops, entry) {
-        return Ok(None);
-    }
-    take_entry(space, Some(entry))
 }
 
 impl<'a, K: Spelled> Chooser for Replayed<'a, K> {

@@ -1,8 +1,9 @@
 //! Whether a run is what its report says: the rounds of the script are run by the entries that the report spells, and
 //! what comes of it is compared with the report and the images after.
 
-ghost use Rattle.std.specs.Prelude.{◌≡◌, ◌↔◌, ◌≤◌, [], IfOk, IsErrOf, IsTrue, List as Seq, drop, false, length, map, ℕ};
-ghost use Rattle.std.specs.List.{AllByRecursion};
+ghost use Rattle.std.specs.Prelude.{◌≡◌, ◌≤◌, ◌↔◌, [], IfOk, IfSome, IsErrOf, List as Seq, MatchOption, drop, length, map, true, ℕ};
+ghost use Rattle.std.specs.List.{AllByRecursion, list_all};
+ghost use Rattle.zio_types.specs.Places.{is_lawful_top};
 ghost use Rattle.zio_outside.specs.Memory.{disk_image};
 ghost use Rattle.zio_script.specs.Accepted.{AreRising};
 ghost use Rattle.zio_script.specs.Grammar.{IsScriptOf};
@@ -10,60 +11,70 @@ ghost use Rattle.zio_script.specs.Requests.{requests_of};
 ghost use Rattle.zio_gang.specs.Trees.{sizes_of};
 ghost use Rattle.zio_report.specs.Meanings.{IsEmptyJournal};
 ghost use Rattle.zio_spelled.specs.Rounds.{IsSpelled};
+ghost use Rattle.zio_spelled.specs.declared.count.TheConstants.{REPORT_LEN_MAX};
 ghost use Rattle.zio_spelled.specs.declared.rounds.RoundJournal.{RoundJournal as SeenJournal};
 ghost use Rattle.zio_command.specs.Grounds.{IsSettingOf};
 ghost use Rattle.zio_audit.specs.Audits.{AreNew, sizes_in};
-ghost use Rattle.zio_audit.specs.Ended.{HasReplayed, IsAtStart, IsJudged};
-ghost use Rattle.zio_audit.specs.Putting.{IsPutIn};
+ghost use Rattle.zio_audit.specs.Ended.{HasReplayed, IsAtStart, IsJudged, IsSeenOf};
+ghost use Rattle.zio_audit.specs.Putting.{IsPutIn, IsText, rest_of};
+ghost use Rattle.zio_audit.specs.Seen.{IsLineOrNext, IsSeenIn, verdict_of};
 ghost use Rattle.zio_audit.specs.Verdicts.{Case, HasLawfulEntries, IsReadAs, IsVerdict, journal_spelled};
 
-use crate::completions::completions_match;
+use crate::completions::unmatched_round;
+use crate::differing::first_other;
+use crate::journals::Journals;
 use crate::plain_lines::shows_bytes;
 use crate::plain_matcher::PlainMatcher;
 use crate::putting::{PutIn, journal_text};
 use crate::replay::{AsSpelled, replay_over};
 use crate::replayed::{Replayed, Spelled};
-use crate::verdict::{Verdict, Why};
+use crate::seen::Seen;
+use crate::shapes::line_before;
 use std::alloc::Global;
 use zio_disks::Setting;
 use zio_outside::MemDisk;
 use zio_plain::{EntriesFault, Plain};
 use zio_report::{RunFault, Show};
 use zio_script::{Script, accepted_scripts_are_orderly};
-use zio_spelled::RoundJournal;
 use zio_suspend::run_script;
 use zio_types::{Bytes, Journal, List, NoMemory, TopSize};
 
-/// What is to be said of a run whose script and report are read: `text` is the script's, `journals` is what the report
-/// spells of each round, and the disks have the images before the run.
+/// What is to be said of a run whose script is read, and whose report spells a journal: `text` is the script's, and the
+/// disks have the images before the run.
 pub(crate) fn judge_run<K: Spelled>(
     alloc: Global,
     text: &[u8],
     script: &Script,
     report: &[u8],
     setting: Setting,
-    sizes: List<TopSize>,
+    sizes: &[TopSize],
     disks: Vec<MemDisk>,
-    journals: &[RoundJournal],
     after: &[Bytes],
-) -> Result<Verdict, NoMemory>
+) -> Result<Option<Seen>, NoMemory>
     requires script { IsScriptOf text.now script.now }
     requires new { AreNew disks.items (map disk_image disks.items) }
     requires few { length disks.items ≤ 16 }
     requires setting { IsSettingOf script.now (sizes_in disks.items) setting }
-    requires sizes { sizes ≡ sizes_of setting.tops }
-    requires spelled { IsSpelled sizes report.now journals.now }
-    requires journals { journals.now ≡ K.journals }
-    ensures { IfOk result (IsVerdict (record {
+    requires sizes { sizes.now ≡ sizes_of setting.tops }
+    requires short { length report.now ≤ REPORT_LEN_MAX }
+    requires spelled { IsSpelled sizes.now report.now K.journals }
+    ensures verdict { IfOk result (λ seen. IsVerdict (record {
       script = text.now;
       report = report.now;
       before = map disk_image disks.items;
       after = after.now;
-    })) }
+    }) (verdict_of seen)) }
+    ensures place { IfOk result (λ seen. IfSome seen (IsSeenIn (record {
+      script = text.now;
+      report = report.now;
+      before = map disk_image disks.items;
+      after = after.now;
+    }))) }
 {
     accepted_scripts_are_orderly();
     let images = disks.len() as u32;
-    let runner = replay_over::<MemDisk, K>(alloc, setting, disks, sizes, journals)?;
+    let journals = Journals::of(sizes, report);
+    let runner = replay_over::<MemDisk, K>(alloc, setting, disks, sizes, journals.again())?;
     let mut plain = PlainMatcher::new(report);
     let mut journal = Journal::new(alloc);
     let show = Show::Report {
@@ -82,9 +93,18 @@ pub(crate) fn judge_run<K: Spelled>(
         Ok(disks) => judge_ended(
             alloc, script, report, journals, &plain, &journal, &disks, after,
         ),
-        Err(EntriesFault::Strange) => Ok(Verdict::no(Why::Places)),
+        Err(EntriesFault::Strange) => Ok(Some(Seen::Places {
+            round: round_after(journal.rounds),
+        })),
         Err(EntriesFault::Memory) => Err(NoMemory),
     }
+}
+
+// The number of the round that comes after so many.
+fn round_after(rounds: u32) -> u64
+    ensures { 1 ≤ result }
+{
+    u64::from(rounds) + 1
 }
 
 // Runs the script by the entries that the report spells, and gives its disks; strange where they aren't lawful.
@@ -123,89 +143,87 @@ fn judge_ended(
     alloc: Global,
     script: &Script,
     report: &[u8],
-    journals: &[RoundJournal],
+    journals: Journals<'_>,
     plain: &PlainMatcher,
     journal: &Journal,
     disks: &[MemDisk],
     after: &[Bytes],
-) -> Result<Verdict, NoMemory>
+) -> Result<Option<Seen>, NoMemory>
     requires rising { AreRising (requests_of script.now.items) }
-    ensures { IfOk result (IsJudged script.now report.now journals.now plain.now journal.now
-        (map disk_image disks.now) after.now) }
+    ensures verdict { IfOk result (λ seen. IsJudged script.now report.now journals.entry plain.now journal.now
+        (map disk_image disks.now) after.now (verdict_of seen)) }
+    ensures place { IfOk result (λ seen. IfSome seen (IsSeenOf script.now report.now journals.entry plain.now journal.now
+        (map disk_image disks.now) after.now)) }
 {
-    if have_entries(behind(journals, journal.rounds)) {
-        return Ok(Verdict::no(Why::Places));
+    match round_behind(alloc, journals.again(), journal.rounds)? {
+        Some(round) => return Ok(Some(Seen::Places { round })),
+        None => {}
     }
-    if !completions_match(
+    match unmatched_round(
         alloc,
         script.items.as_slice(),
         journal.completions.as_slice(),
-        journals,
+        journals.again(),
     )? {
-        return Ok(Verdict::no(Why::Completions));
+        Some(round) => return Ok(Some(Seen::Completions { round })),
+        None => {}
     }
     if !plain.is_whole() {
-        return Ok(Verdict::no(Why::Text));
+        return Ok(Some(text_seen(report, plain.left())));
     }
-    if !are_put_in(alloc, report, journals)? {
-        return Ok(Verdict::no(Why::Text));
+    let put = put_in(alloc, report, journals)?;
+    if !put.is_whole() {
+        return Ok(Some(text_seen(report, put.left())));
     }
-    if !hold_images(disks, after) {
-        return Ok(Verdict::no(Why::Images));
-    }
-    Ok(Verdict::Yes)
-}
-
-// The journals behind those of so many rounds.
-fn behind(journals: &[RoundJournal], rounds: u32) -> &[RoundJournal]
-    ensures { result.now ≡ drop rounds journals.now }
-{
-    match journals.get(rounds as usize..) {
-        Some(behind) => behind,
-        None => &[],
+    match first_other(disks, after) {
+        Some((image, byte)) => Ok(Some(Seen::Images { image, byte })),
+        None => Ok(None),
     }
 }
 
-// One of these rounds has an entry.
-fn have_entries(journals: &[RoundJournal]) -> bool
-    ensures { (result ≡ false) ↔ AllByRecursion (λ (j : SeenJournal). j.entries ≡ []) journals.now }
+// The line of the report behind which so many bytes follow, or fewer, isn't that of the run.
+fn text_seen(report: &[u8], left: Option<usize>) -> Seen
+    ensures { (line : ℕ) × (result ≡ Seen.Text line) × IsLineOrNext report.now line }
 {
-    for journal in journals {
+    Seen::Text {
+        line: line_before(report, left),
+    }
+}
+
+// The first round with an entry behind so many rounds.
+fn round_behind(alloc: Global, journals: Journals<'_>, rounds: u32) -> Result<Option<u64>, NoMemory>
+    ensures { IfOk result (λ found. MatchOption found
+        (AllByRecursion (λ (j : SeenJournal). j.entries ≡ []) (drop rounds journals.entry))
+        (λ round. (1 ≤ round) × (¬ AllByRecursion (λ (j : SeenJournal). j.entries ≡ []) (drop rounds journals.entry)))) }
+{
+    let mut later = journals;
+    later.skip(alloc, rounds)?;
+    let mut more: u64 = 0;
+    while let Some(journal) = later.next(alloc)? {
+        more += 1;
         if !journal.entries.is_empty() {
-            return true;
+            return Ok(Some(u64::from(rounds) + more));
         }
     }
-    false
+    Ok(None)
 }
 
-// Whether the lines of these journals stand in the report where a run prints them.
-fn are_put_in(alloc: Global, report: &[u8], journals: &[RoundJournal]) -> Result<bool, NoMemory>
-    ensures { IfOk result (λ put. IsTrue put ↔ IsPutIn journals.now report.now) }
+// The report compared with its own lines, where those of these journals stand as a run prints them.
+fn put_in<'a>(
+    alloc: Global,
+    report: &'a [u8],
+    journals: Journals<'_>,
+) -> Result<PutIn<'a>, NoMemory>
+    ensures { IfOk result (λ put. IsText (rest_of put) [] ↔ IsPutIn journals.entry report.now) }
 {
     let mut put = PutIn::of(report);
     let mut later = journals;
     let mut held = List::new(alloc);
     while put.next_round(held.as_slice()) {
-        held = match later {
-            [] => List::new(alloc),
-            [journal, rest @ ..] => {
-                later = rest;
-                journal_text(alloc, journal)?
-            }
+        held = match later.next(alloc)? {
+            None => List::new(alloc),
+            Some(journal) => journal_text(alloc, &journal)?,
         };
     }
-    Ok(put.is_whole())
-}
-
-// Whether the disks have these images.
-fn hold_images(disks: &[MemDisk], images: &[Bytes]) -> bool
-    ensures { IsTrue result ↔ (images.now ≡ map disk_image disks.now) }
-{
-    match (disks.split_first(), images.split_first()) {
-        (None, None) => true,
-        (Some((disk, disks)), Some((image, images))) => {
-            disk.image() == image.as_slice() && hold_images(disks, images)
-        }
-        _ => false,
-    }
+    Ok(put)
 }

@@ -28,15 +28,6 @@ pub enum Why {
     Images,
 }
 
-impl Verdict {
-    /// No, for this reason.
-    pub(crate) fn no(why: Why) -> Verdict
-        ensures { result ≡ Verdict.No (why_number why) }
-    {
-        Verdict::No { why: why.number() }
-    }
-}
-
 impl Why {
     /// From 1.
     pub fn number(self) -> u32

@@ -1,11 +1,17 @@
 -- How an audit ends, by how it came out and how its line was taken.
-use Rattle.std.proofs.Common.{◌≡◌, ◌≢◌, ℕ, List, inl, inr, sym, ◌∙◌, arith}
+use Rattle.std.proofs.Common.{◌≡◌, ◌≢◌, ℕ, List, Option, inl, inr, sym, subst, ◌∙◌, arith}
+use Rattle.std.specs.Prelude.{IfSome}
+use Rattle.zio_audit.specs.declared.seen.Seen.{Seen}
 use Rattle.zio_audit.specs.declared.verdict.Verdict.{Verdict}
 use Rattle.zio_audit.specs.declared.verdict.Verdict.TheVariants.{Yes, No}
+use Rattle.zio_audit.specs.Audits.{MayBeAudited}
+use Rattle.zio_audit.specs.Seen.{IsSeenIn, verdict_of}
+use Rattle.zio_audit.specs.Verdicts.{Case, IsVerdict}
 use Rattle.zio_command.specs.Outcomes.{Ends}
 use Rattle.zio_command.specs.Seen.{ShelfSeen, SinkSeen}
-use Rattle.zio_audit_run.specs.Causes.{IsFileCause, WasJudged}
+use Rattle.zio_audit_run.specs.Causes.{IsFileCause, WasJudged, WasSeen, WereRead}
 use Rattle.zio_audit_run.specs.Codes.{AuditEnds, IsAuditCode, IsTold, WasWritten, files_line, verdict_code, verdict_line}
+use Rattle.zio_audit_run.specs.Files.{files_in}
 use Rattle.zio_audit_run.specs.Codes.AuditEnds.{Judged, Blamed, JudgedCut, BlamedCut, Stopped, Wanting}
 
 pub judged_ends : (names : List (List ℕ)) (old_sink new_sink : SinkSeen) (old new : ShelfSeen) (verdict : Verdict) (code : ℕ) → WasJudged names verdict old new
@@ -71,3 +77,28 @@ ends_told names old_sink new_sink old new code (JudgedCut verdict is judged cut)
 ends_told names old_sink new_sink old new code (BlamedCut k is cause cut) told = absurd (told_not code 6 told is (λ e. omega arith) (λ e. omega arith))
 ends_told names old_sink new_sink old new code (Stopped is stopped nothing) told = absurd (told_not code 7 told is (λ e. omega arith) (λ e. omega arith))
 ends_told names old_sink new_sink old new code (Wanting is nothing) told = absurd (told_not code 8 told is (λ e. omega arith) (λ e. omega arith))
+
+-- then the code is the verdict's
+pub told_code : (verdict : Verdict) (code : ℕ) (old new : SinkSeen) → Ends (verdict_code verdict) (verdict_line verdict) code old.faults new.faults old.holds new.holds
+    → IsTold code → code ≡ verdict_code verdict
+told_code verdict code old new ends told = elim ends.codes_are [
+  | inl due ↦ due
+  | inr (inl six) ↦ absurd (told_not code 6 told six (λ e. omega arith) (λ e. omega arith))
+  | inr (inr eight) ↦ absurd (told_not code 8 told eight (λ e. omega arith) (λ e. omega arith))
+]
+
+-- and where a file was blamed nothing of a verdict was told
+pub blamed_untold : (k code : ℕ) (old new : SinkSeen) → Ends 3 (files_line k) code old.faults new.faults old.holds new.holds → IsTold code → ⊥
+blamed_untold k code old new ends told = elim ends.codes_are [
+  | inl three ↦ told_not code 3 told three (λ e. omega arith) (λ e. omega arith)
+  | inr (inl six) ↦ told_not code 6 told six (λ e. omega arith) (λ e. omega arith)
+  | inr (inr eight) ↦ told_not code 8 told eight (λ e. omega arith) (λ e. omega arith)
+]
+
+-- files that were read, and what is to be said of them
+pub was_seen : (names files : List (List ℕ)) (seen : Option Seen) (old new : ShelfSeen) → WereRead names files old new
+    → (c : Case) × (files_in c ≡ files) × MayBeAudited c × IsVerdict c (verdict_of seen) × IfSome seen (IsSeenIn c) → WasSeen names seen old new
+was_seen names files seen old new read it = record {
+  judged = record { read = it.0; files = subst (λ (fs : List (List ℕ)). WereRead names fs old new) (sym it.1) read; may = it.2; is = it.3 };
+  place = it.4;
+}

@@ -1,5 +1,6 @@
 -- Files as a case: the script, the report, the images before the run, and as many after it.
 use Rattle.std.proofs.Common.{◌≡◌, ◌≤◌, ◌+◌, ◌*◌, ℕ, suc, List, [], ◌∷◌, ◌++◌, get_or, length, map, take, drop, sym, ap, ◌∙◌, subst, arith}
+use Rattle.std.specs.Prelude.{IfOk, Result, Ok, Err}
 use Rattle.std.proofs.lemmas.List.{length-drop, length-take-le, take-append-drop}
 use Rattle.zio_cksum.specs.Images.{Images}
 use Rattle.zio_command.specs.declared.names.TheConstants.{IMAGES_MAX}
@@ -41,3 +42,8 @@ judge_case (x ∷ y ∷ rest) kept front c a b n count few fit kept_is after_is 
       same = whole;
       may = fit_case c n first second few (subst (λ (fs : Images). AreFit (map (length {A = ℕ}) fs)) (sym whole) fit);
     }
+
+-- what two clauses say of a value, where a call gave one
+pub if_both : {T E : Type 0} (r : Result T E) (P Q R : T → Type 0) → ((x : T) → P x → Q x → R x) → IfOk r P → IfOk r Q → IfOk r R
+if_both (Ok x) P Q R more h k = more x h k
+if_both (Err e) P Q R more h k = tt

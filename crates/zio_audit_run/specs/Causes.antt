@@ -1,8 +1,10 @@
 -- Why an audit ends as it does, by what is seen of the shelf before and after.
-use Rattle.std.specs.Prelude.{◌≡◌, ◌<◌, ◌⊎◌, ℕ, List, length, map}
+use Rattle.std.specs.Prelude.{◌≡◌, ◌<◌, ◌⊎◌, ℕ, List, length, map, Option, IfSome}
 use Rattle.zio_outside.specs.Outside.{Rose}
+use Rattle.zio_audit.specs.declared.seen.Seen.{Seen}
 use Rattle.zio_audit.specs.declared.verdict.Verdict.{Verdict}
 use Rattle.zio_audit.specs.Audits.{MayBeAudited}
+use Rattle.zio_audit.specs.Seen.{IsSeenIn, verdict_of}
 use Rattle.zio_audit.specs.Verdicts.{Case, IsVerdict}
 use Rattle.zio_command.specs.Headline.{TellEach}
 use Rattle.zio_command.specs.Outcomes.{counted_times}
@@ -53,3 +55,8 @@ pub record WasJudged (names : List (List ℕ)) (verdict : Verdict) (old new : Sh
   pub files : WereRead names (files_in read) old new
   pub may : MayBeAudited read
   pub is : IsVerdict read verdict
+
+-- the verdict over the bytes of the files says no for this reason, which was first seen there, or yes where there is none
+pub record WasSeen (names : List (List ℕ)) (seen : Option Seen) (old new : ShelfSeen) : Type 0 where
+  pub judged : WasJudged names (verdict_of seen) old new
+  pub place : IfSome seen (IsSeenIn judged.read)

@@ -2,9 +2,10 @@
 --
 -- The order of the causes: the words, fetching the files one after another, their sizes, reading them, the verdict,
 -- writing.
-use Rattle.std.specs.Prelude.{◌≡◌, ◌⊎◌, ◌++◌, ℕ, List, Result, Ok, Err, decimal, codes}
+use Rattle.std.specs.Prelude.{◌≡◌, ◌⊎◌, ◌++◌, ℕ, List, Option, Result, Ok, Err, decimal, codes}
 use Rattle.zio_outside.specs.Outside.{Appends, AppendsFront, Keeps, Rose}
 use Rattle.zio_report.specs.Lines.{as_line}
+use Rattle.zio_audit.specs.declared.seen.Seen.{Seen}
 use Rattle.zio_audit.specs.declared.verdict.Verdict.{Verdict}
 use Rattle.zio_audit.specs.declared.verdict.Verdict.TheVariants.{Yes, No}
 use Rattle.zio_audit.specs.Audits.{MayBeAudited}
@@ -12,7 +13,7 @@ use Rattle.zio_audit.specs.Verdicts.{Case, IsVerdict}
 use Rattle.zio_command.specs.Seen.{ShelfSeen, SinkSeen}
 use Rattle.zio_audit_run.specs.declared.files.AuditFault.{AuditFault}
 use Rattle.zio_audit_run.specs.declared.files.AuditFault.TheVariants.{File, Device, Memory}
-use Rattle.zio_audit_run.specs.Causes.{IsFileCause, WasJudged, WasStopped}
+use Rattle.zio_audit_run.specs.Causes.{IsFileCause, WasJudged, WasSeen, WasStopped}
 use Rattle.zio_audit_run.specs.Files.{IsUnfit, sizes_in}
 
 -- ---- texts
@@ -53,8 +54,8 @@ pub record WasCut (line : List ℕ) (old new : SinkSeen) : Type 0 where
 -- ---- how an audit ends
 
 -- how the audit of the files under these names came out, before a line of it was written
-abbrev pub CameOut : List (List ℕ) → ShelfSeen → ShelfSeen → Result Verdict AuditFault → Type 0
-CameOut names old new (Ok verdict) = WasJudged names verdict old new
+abbrev pub CameOut : List (List ℕ) → ShelfSeen → ShelfSeen → Result (Option Seen) AuditFault → Type 0
+CameOut names old new (Ok seen) = WasSeen names seen old new
 CameOut names old new (Err (File k)) = IsFileCause names old new k
 CameOut names old new (Err Device) = WasStopped names old new
 CameOut names old new (Err Memory) = Unit {0}

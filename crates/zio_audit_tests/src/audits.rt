@@ -2,7 +2,7 @@ ghost use Rattle.std.specs.Prelude.{◌≡◌, ◌≤◌, IfOk, length};
 
 use std::alloc::Global;
 use std::test::Fail;
-use zio_audit::{Verdict, audit};
+use zio_audit::{Seen, Verdict, audit, audit_seen};
 use zio_types::{Bytes, List, NoMemory};
 
 const SCRIPT: &[u8] = b"top 0\n1 write x sha256 1 sync fill 41 512\ngo\n2 read x sync\ngo\n";
@@ -67,5 +67,48 @@ fn the_first_reason_is_told(rt: HostRuntime) -> Result<(), Fail> {
     assert_eq!(rt; verdict(alloc, SCRIPT, UNORDERED)?, Verdict::No { why: 4 });
     assert_eq!(rt; verdict(alloc, SCRIPT, UNENDED)?, Verdict::No { why: 5 });
     assert_eq!(rt; verdict(alloc, SCRIPT, ELSEWHERE)?, Verdict::No { why: 6 });
+    Ok(())
+}
+
+/// Where the first reason was seen to say no of the same run.
+fn seen(alloc: Global, script: &[u8], report: &[u8]) -> Result<Option<Seen>, NoMemory>
+    requires script { length script.now ≤ 1024 }
+    requires report { length report.now ≤ 1024 }
+{
+    let mut before = Vec::new(alloc);
+    before.push(image(alloc, 0)?)?;
+    let after = [image(alloc, 0x41)?];
+    audit_seen(alloc, script, report, before, &after)
+}
+
+#[test]
+fn it_is_told_where_the_reason_was_seen(rt: HostRuntime) -> Result<(), Fail> {
+    let alloc = rt.alloc();
+    assert_eq!(rt; seen(alloc, SCRIPT, REPORT)?, None);
+    assert_eq!(rt;
+        seen(alloc, b"top 0\nhello\n", REPORT)?,
+        Some(Seen::Script { line: 2 })
+    );
+    assert_eq!(rt;
+        seen(alloc, b"top 1\n", REPORT)?,
+        Some(Seen::Leaf { leaf: 1 })
+    );
+    assert_eq!(rt;
+        seen(alloc, SCRIPT, b"pool 1 1\norder 1\n")?,
+        Some(Seen::Lines { line: 2 })
+    );
+    assert_eq!(rt;
+        seen(alloc, SCRIPT, UNTAKEN)?,
+        Some(Seen::Places { round: 1 })
+    );
+    assert_eq!(rt;
+        seen(alloc, SCRIPT, UNORDERED)?,
+        Some(Seen::Completions { round: 1 })
+    );
+    assert_eq!(rt; seen(alloc, SCRIPT, UNENDED)?, Some(Seen::Text { line: 9 }));
+    assert_eq!(rt;
+        seen(alloc, SCRIPT, ELSEWHERE)?,
+        Some(Seen::Images { image: 0, byte: 0 })
+    );
     Ok(())
 }

@@ -1,13 +1,13 @@
-ghost use Rattle.std.specs.Prelude.{◌≡◌, IfOk};
+ghost use Rattle.std.specs.Prelude.{◌≡◌, ◌≤◌, IfOk, length};
 ghost use Rattle.zio_script.specs.Accepted.{AreRising};
 ghost use Rattle.zio_script.specs.Requests.{requests_of};
 
+use crate::journals::journals;
 use std::alloc::Global;
 use std::test::Fail;
-use zio_audit::completions_match;
+use zio_audit::unmatched_round;
 use zio_script::{Item, Request, Work};
-use zio_spelled::RoundJournal;
-use zio_types::{Completion, List, NoMemory, ReqNo};
+use zio_types::{Completion, NoMemory, ReqNo};
 
 /// A null, and one under it.
 fn family(alloc: Global) -> Result<Vec<Item>, NoMemory>
@@ -38,37 +38,47 @@ fn done(request: ReqNo, round: u32) -> Completion {
     }
 }
 
-/// A round without entries, in which these completed.
-fn ordered(alloc: Global, order: &[ReqNo]) -> Result<RoundJournal, NoMemory> {
-    let mut journal = RoundJournal {
-        entries: List::new(alloc),
-        order: List::new(alloc),
-    };
-    journal.order.extend_from_slice(order)?;
-    Ok(journal)
-}
-
-/// Whether these orders of two rounds are lawful where both requests complete in the first.
-fn matched(alloc: Global, first: &[ReqNo], second: &[ReqNo]) -> Result<bool, NoMemory> {
+/// The first of two rounds in which these orders aren't lawful, where both requests complete in the first.
+fn unmatched(alloc: Global, report: &[u8]) -> Result<Option<u64>, NoMemory>
+    requires { length report.now ≤ 1024 }
+{
     let items = family(alloc)?;
-    let mut rounds = Vec::new(alloc);
-    rounds.push(ordered(alloc, first)?)?;
-    rounds.push(ordered(alloc, second)?)?;
-    completions_match(alloc, &items, &[done(2, 1), done(1, 1)], &rounds)
+    match journals(alloc, report)? {
+        Some(journals) => unmatched_round(alloc, &items, &[done(2, 1), done(1, 1)], journals),
+        None => Ok(Some(0)),
+    }
 }
 
 #[test]
 fn a_child_completes_first(rt: HostRuntime) -> Result<(), Fail> {
-    assert!(rt; matched(rt.alloc(), &[2, 1], &[])?);
-    assert!(rt; !matched(rt.alloc(), &[1, 2], &[])?);
+    let alloc = rt.alloc();
+    assert_eq!(rt; unmatched(alloc, b"round 1\norder 2 1\nround 2\n")?, None);
+    assert_eq!(rt;
+        unmatched(alloc, b"round 1\norder 1 2\nround 2\n")?,
+        Some(1)
+    );
     Ok(())
 }
 
 #[test]
 fn each_completes_once_in_its_round(rt: HostRuntime) -> Result<(), Fail> {
-    assert!(rt; !matched(rt.alloc(), &[2, 2, 1], &[])?);
-    assert!(rt; !matched(rt.alloc(), &[2], &[])?);
-    assert!(rt; !matched(rt.alloc(), &[2], &[1])?);
-    assert!(rt; !matched(rt.alloc(), &[2, 1, 4_000_000_000], &[])?);
+    let alloc = rt.alloc();
+    assert_eq!(rt;
+        unmatched(alloc, b"round 1\norder 2 2 1\nround 2\n")?,
+        Some(1)
+    );
+    assert_eq!(rt; unmatched(alloc, b"round 1\norder 2\nround 2\n")?, Some(1));
+    assert_eq!(rt;
+        unmatched(alloc, b"round 1\norder 2\nround 2\norder 1\n")?,
+        Some(1)
+    );
+    assert_eq!(rt;
+        unmatched(alloc, b"round 1\norder 2 1 4000000000\nround 2\n")?,
+        Some(1)
+    );
+    assert_eq!(rt;
+        unmatched(alloc, b"round 1\norder 2 1\nround 2\norder 1\n")?,
+        Some(2)
+    );
     Ok(())
 }

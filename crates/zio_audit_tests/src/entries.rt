@@ -37,7 +37,7 @@ pub(crate) fn refused(request: u32) -> Entry {
     }
 }
 
-pub(crate) fn key(request: u32) -> Key {
+fn key(request: u32) -> Key {
     Key {
         request,
         round: 1,

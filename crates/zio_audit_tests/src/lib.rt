@@ -11,12 +11,10 @@ mod completions;
 #[cfg(test)]
 mod entries;
 #[cfg(test)]
-mod judge;
+mod journals;
 #[cfg(test)]
-mod matcher;
+mod judge;
 #[cfg(test)]
 mod plain;
 #[cfg(test)]
 mod putting;
-#[cfg(test)]
-mod recorded;

@@ -32,7 +32,8 @@ Exit status:
   8   memory was wanted and not given
   10  no; `no WHY` tells why
 
-Of each status but 0 a line on standard error tells more. The whys of status 10:
+Of each status but 0 a line on standard error tells more: of status 10 in which
+line, round or byte the why was first seen. The whys of status 10:
   1  the script isn't accepted, or a top names a leaf without an image
   2  a `take` or `order` line of the report isn't of its shape, has a number that
      is too large, or stands before every `round` line

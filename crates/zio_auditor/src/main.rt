@@ -1,8 +1,9 @@
 //! The program `zio_auditor`: tells whether a finished run is what its script means.
 //!
-//! It joins `zio_audit_main` to standard output and files, and ends with its code as the exit status. What it answers
-//! is the contract of that call. Questions for help or the version are answered here, as `about` says, and `told` has
-//! the line on standard error that goes with a code other than 0.
+//! It joins `audit_telling`, which is `zio_audit_main` and says too where the reason of a no was first seen, to standard
+//! output and files, and ends with its code as the exit status. What it answers is the contract of that call. Questions
+//! for help or the version are answered here, as `about` says, and `told` has the line on standard error that goes with
+//! a code other than 0.
 #![tactic(auto)]
 
 mod about;
@@ -17,7 +18,8 @@ use std::io::ErrorKind;
 use std::process::ExitCode;
 use told::line_of;
 use watched::Watched;
-use zio_audit_run::zio_audit_main;
+use zio_audit::Seen;
+use zio_audit_run::audit_telling;
 use zio_command::{CODE_MEMORY, CODE_SINK};
 use zio_outside::{FileShelf, Sink, StdSink};
 
@@ -66,16 +68,17 @@ fn tell(rt: &HostRuntime, text: &str) -> u8 {
 fn audit(rt: &HostRuntime, words: &[String]) -> u8 {
     let mut shelf = FileShelf::new(rt);
     let mut out = Watched::new(StdSink::new(rt));
-    let status = zio_audit_main(rt.alloc(), words, &mut shelf, &mut out);
+    let mut seen = None;
+    let status = audit_telling(rt.alloc(), words, &mut shelf, &mut out, &mut seen);
     if status.code != 0 {
-        explain(rt, status.code, out.front(), words);
+        explain(rt, status.code, out.front(), words, seen);
     }
     status.code
 }
 
 /// Tells in a line on standard error what the code means here. It says more than the code does, and changes nothing.
-fn explain(rt: &HostRuntime, code: u8, front: &[u8], words: &[String]) {
-    if let Ok(line) = line_of(rt, rt.alloc(), code, front, words) {
+fn explain(rt: &HostRuntime, code: u8, front: &[u8], words: &[String], seen: Option<Seen>) {
+    if let Ok(line) = line_of(rt, rt.alloc(), code, front, words, seen) {
         let _ = eprintln!(rt; "zio_auditor: {line}");
     }
 }

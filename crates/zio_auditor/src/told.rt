@@ -6,32 +6,63 @@ use std::fs;
 use std::io::ErrorKind;
 use std::os::unix::fs::FileTypeExt;
 use std::rt::Files;
-use zio_audit::AUDITED_LEN_MAX;
+use zio_audit::{AUDITED_LEN_MAX, Seen, Why};
 use zio_command::IMAGE_LEN_MIN;
 use zio_script::SCRIPT_LEN_MAX;
 use zio_spelled::REPORT_LEN_MAX;
 
-/// The text of a reason to say no, by its number.
-fn why_text(why: usize) -> &'static str {
+/// The text of a reason to say no.
+fn why_text(why: Why) -> &'static str {
     match why {
-        1 => "the script isn't accepted, or a top names a leaf without an image",
-        2 =>
+        Why::Script => "the script isn't accepted, or a top names a leaf without an image",
+        Why::Lines =>
             "a `take` or `order` line of the report isn't of its shape, or stands before every round",
-        3 => "the places that the `take` lines tell aren't lawful for what the script asks",
-        4 => "the `order` lines aren't those of the requests that finished",
-        5 => "the report isn't the text of the run",
-        6 => "the images after the run aren't those that it leaves",
-        _ => "no reason is known",
+        Why::Places =>
+            "the places that the `take` lines tell aren't lawful for what the script asks",
+        Why::Completions => "the `order` lines aren't those of the requests that finished",
+        Why::Text => "the report isn't the text of the run",
+        Why::Images => "the images after the run aren't those that it leaves",
     }
 }
 
-/// The line for a code other than 0, without a newline. `front` is what the output begins with.
+/// Where it was first seen.
+fn place_text(alloc: Global, words: &[String], seen: Seen) -> Result<String, AllocError> {
+    match seen {
+        Seen::Script { line: 0 } => format!(in alloc; "in the script as a whole"),
+        Seen::Script { line } => format!(in alloc; "in line {line} of the script"),
+        Seen::Leaf { leaf } => format!(in alloc; "at leaf {leaf}"),
+        Seen::Lines { line } | Seen::Text { line } => format!(in alloc;
+            "in line {line} of the report"
+        ),
+        Seen::Places { round } | Seen::Completions { round } => format!(in alloc;
+            "in round {round}"
+        ),
+        Seen::Images { image, byte } => format!(in alloc;
+            "in byte {byte} of image {image}, {}",
+            after_name(words, image)
+        ),
+    }
+}
+
+/// The name of the image after the run of this number.
+fn after_name(words: &[String], image: usize) -> &str {
+    let images = words.len().saturating_sub(2) / 2;
+    let first = images.saturating_add(2);
+    match words.get(first.saturating_add(image)) {
+        Some(name) => name.as_str(),
+        None => "which wasn't named",
+    }
+}
+
+/// The line for a code other than 0, without a newline. `front` is what the output begins with, and `seen` is where the
+/// reason of a no was first seen.
 pub fn line_of<R: Files>(
     rt: &R,
     alloc: Global,
     code: u8,
     front: &[u8],
     words: &[String],
+    seen: Option<Seen>,
 ) -> Result<String, AllocError> {
     match code {
         1 => format!(in alloc; "usage: {USAGE}"),
@@ -39,7 +70,7 @@ pub fn line_of<R: Files>(
         6 => format!(in alloc; "standard output can't be written"),
         7 => format!(in alloc; "a file can't be read"),
         8 => format!(in alloc; "no memory"),
-        10 => no_line(alloc, front),
+        10 => no_line(alloc, words, seen),
         _ => format!(in alloc; "the audit ended with status {code}"),
     }
 }
@@ -54,11 +85,18 @@ fn number(front: &[u8]) -> Option<usize> {
     words.next().and_then(|word| word.parse().ok())
 }
 
-fn no_line(alloc: Global, front: &[u8]) -> Result<String, AllocError> {
-    match number(front) {
-        Some(why) => format!(in alloc; "no: {} (why {why})", why_text(why)),
-        None => format!(in alloc; "no"),
-    }
+fn no_line(alloc: Global, words: &[String], seen: Option<Seen>) -> Result<String, AllocError> {
+    let Some(seen) = seen else {
+        return format!(in alloc; "no");
+    };
+    let place = place_text(alloc, words, seen)?;
+    let why = seen.why();
+    format!(in alloc;
+        "no: {} (why {}), first seen {}",
+        why_text(why),
+        why.number(),
+        place.as_str()
+    )
 }
 
 fn file_line<R: Files>(

@@ -6,7 +6,7 @@ use Rattle.zio_places.specs.Spaces.{used}
 use Rattle.zio_blocks.specs.Choosers.{AreHeld}
 use Rattle.zio_blocks.proofs.ChooserLemmas.{held_sound, live_after, used_after}
 use Rattle.zio_audit.specs.Replays.{AreReplayed, IsReplied, SeenReplayed}
-use Rattle.zio_audit.proofs.RecordedLemmas.{either_way}
+use Rattle.zio_audit.proofs.EntryLemmas.{either_way}
 use Rattle.zio_audit.proofs.ReplayedLemmas.{reply_asked, reply_lawful}
 use Rattle.zio_audit.proofs.replayed.ReplayedChooser.choose.Goals as goal
 

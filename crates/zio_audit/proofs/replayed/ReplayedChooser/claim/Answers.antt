@@ -6,7 +6,7 @@ use Rattle.zio_places.specs.Spaces.{are_on_tops, used}
 use Rattle.zio_blocks.specs.declared.chooser.Unclaimed.TheVariants.{Taken}
 use Rattle.zio_blocks.proofs.ChooserLemmas.{sound_held}
 use Rattle.zio_audit.specs.Replays.{SeenReplayed}
-use Rattle.zio_audit.proofs.RecordedLemmas.{either_way, sound_same}
+use Rattle.zio_audit.proofs.EntryLemmas.{either_way, sound_same}
 use Rattle.zio_audit.proofs.ReplayedLemmas.{kept_space}
 use Rattle.zio_audit.proofs.replayed.ReplayedChooser.claim.Goals as goal
 

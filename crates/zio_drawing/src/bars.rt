@@ -4,10 +4,10 @@ use crate::asked::{Asked, Asking};
 use crate::frame::{ROW_HEIGHT, count};
 use crate::plan::Panel;
 use crate::rounds::{Round, Row, SECTORS_MAX, Step, Take, places_of};
-use crate::told::Outcome;
 use indexmap::IndexMap;
 use std::alloc::Global;
 use zio_script::Name;
+use zio_told::Outcome;
 use zio_types::{Kind, NoMemory, Place, Role};
 
 /// What a place is taken for.

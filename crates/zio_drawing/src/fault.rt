@@ -3,12 +3,10 @@ ghost use Rattle.std.specs.Prelude.{◌≡◌};
 ghost use Rattle.zio_drawing.specs.declared.fault.DrawingFault.TheVariants.{Memory};
 
 use crate::frame::count;
-use std::alloc::{AllocError, AllocFailed};
+use std::alloc::AllocError;
 use zio_script::ScriptFault;
+use zio_told::LinesFault;
 use zio_types::NoMemory;
-
-/// The most lines of a report that is drawn: a longer picture couldn't be read.
-pub const REPORT_LINES_MAX: usize = 10_000;
 
 /// What is wrong with a line of a report.
 #[derive(Clone, Copy, Debug, PartialEq, Eq)]
@@ -55,10 +53,12 @@ impl From<AllocError> for DrawingFault {
     }
 }
 
-impl<T: Drop> From<AllocFailed<T>> for DrawingFault {
-    ghost from_gives = { λ _ e. e ≡ Memory };
-
-    fn from(_refused: AllocFailed<T>) -> DrawingFault {
-        DrawingFault::Memory
+impl From<LinesFault> for DrawingFault {
+    fn from(fault: LinesFault) -> DrawingFault {
+        match fault {
+            LinesFault::TooMany => DrawingFault::TooLong,
+            LinesFault::Shape(at) => fault_at(at, ReportFault::Shape),
+            LinesFault::Memory => DrawingFault::Memory,
+        }
     }
 }

@@ -3,10 +3,11 @@
 use crate::asked::Asking;
 use crate::captions::wrapped;
 use crate::frame::{CAPTION_COLUMNS, CAPTION_HEIGHT, MARGIN, PANEL_X, Point, count};
-use crate::markup::{Markup, Piece};
+use crate::shapes::Shapes;
 use Piece::{Fixed, Number, Outside};
 use std::alloc::Global;
 use zio_faults::{FaultKind, On, Row};
+use zio_markup::{Markup, Piece};
 use zio_script::{Failmode, Script};
 use zio_types::NoMemory;
 

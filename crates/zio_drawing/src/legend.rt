@@ -3,9 +3,10 @@
 use crate::bars::Look;
 use crate::frame::{Area, Point};
 use crate::maps::class_of;
-use crate::markup::{Markup, Piece};
 use crate::rows::draw_attempt;
+use crate::shapes::Shapes;
 use Piece::Fixed;
+use zio_markup::{Markup, Piece};
 use zio_types::NoMemory;
 
 /// How much room it takes.

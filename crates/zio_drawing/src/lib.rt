@@ -1,10 +1,8 @@
 //! Pictures of runs: what the report of a script tells, drawn as one SVG from its first round to its last.
 //!
-//! It stands on `zio_script`, whose scripts it reads, and on `zio_spelled`, whose lines of a journal it reads. Read
-//! `draw` first, then `Markup`, which is all that is written, then `told`, which reads a report's other lines, and
-//! `rounds`, which brings them together with what the script asked; the other files lay out and draw. `specs/Escapes`
-//! says what becomes of text from outside, and `specs/Told` which lines a report may have; docs/FORMATS.md, "Picture",
-//! has the rest.
+//! It stands on `zio_script`, whose scripts it reads, on `zio_told`, by which it reads a report's lines, and on
+//! `zio_markup`, by whose `Markup` all is written. Read `draw` first, then `rounds`, which brings a report's lines
+//! together with what the script asked; the other files lay out and draw. docs/FORMATS.md, "Picture", has the rest.
 #![tactic(auto)]
 
 mod asked;
@@ -13,11 +11,8 @@ mod captions;
 mod fault;
 mod frame;
 mod head;
-mod laws;
 mod legend;
-mod lines;
 mod maps;
-mod markup;
 mod page;
 mod picture;
 mod plan;
@@ -25,10 +20,9 @@ mod rounds;
 mod rows;
 mod shapes;
 mod style;
-mod told;
 mod ways;
 
-pub use fault::{DrawingFault, REPORT_LINES_MAX, ReportFault};
-pub use laws::outside_is_character_data;
-pub use markup::Markup;
+pub use fault::{DrawingFault, ReportFault};
 pub use picture::{Form, draw};
+pub use zio_markup::{Markup, outside_is_character_data};
+pub use zio_told::REPORT_LINES_MAX;

@@ -2,11 +2,12 @@
 
 use crate::bars::{Bar, Look};
 use crate::frame::{Area, MAPS_GAP, MAPS_X, Point, count};
-use crate::markup::{Markup, Piece};
 use crate::plan::Panel;
 use crate::rounds::SECTORS_MAX;
+use crate::shapes::Shapes;
 use Piece::{Fixed, Number};
 use std::alloc::Global;
+use zio_markup::{Markup, Piece};
 use zio_script::{Name, TopLine};
 use zio_types::NoMemory;
 

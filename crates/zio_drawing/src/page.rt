@@ -1,8 +1,8 @@
 //! The beginning and the end of a picture, and of a page with a picture.
 
-use crate::markup::{Markup, Piece};
 use crate::style::STYLE;
 use Piece::{Fixed, Number};
+use zio_markup::{Markup, Piece};
 use zio_types::NoMemory;
 
 pub(crate) fn begin_picture(out: &mut Markup, width: u32, height: u32) -> Result<(), NoMemory> {

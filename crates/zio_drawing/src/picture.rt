@@ -2,7 +2,7 @@
 ghost use Rattle.std.specs.Prelude.{◌≡◌, IfOk, OnOk, true};
 ghost use Rattle.std.specs.List.{list_all};
 ghost use Rattle.zio_types.specs.Places.{is_lawful_top, is_unit};
-ghost use Rattle.zio_drawing.specs.Told.{IsAccepted, IsTold};
+ghost use Rattle.zio_told.specs.Told.{IsAccepted, IsTold};
 
 use crate::asked::Asking;
 use crate::bars::{Bar, Source, bars};
@@ -10,17 +10,18 @@ use crate::fault::DrawingFault;
 use crate::frame::{MAPS_X, MARGIN, PANEL_X, Point, STEP_GAP};
 use crate::head::{draw_end, draw_head};
 use crate::legend::{LEGEND_HEIGHT, LEGEND_WIDTH, draw_legend};
-use crate::lines::{lines_of, read_lines};
 use crate::maps::{Column, columns, draw_bar, draw_columns};
-use crate::markup::{Markup, Piece};
 use crate::page::{begin_page, begin_picture, end_page, end_picture};
 use crate::plan::{Panel, panels};
 use crate::rounds::{Report, read_report};
 use crate::rows::draw_panel;
+use crate::shapes::Shapes;
 use crate::ways::draw_ways;
 use Piece::Fixed;
 use std::alloc::Global;
+use zio_markup::{Markup, Piece};
 use zio_script::{Script, ScriptError, TopLine, read_script};
+use zio_told::{lines_of, read_lines};
 use zio_types::{NoMemory, TopSize};
 
 /// What is written.

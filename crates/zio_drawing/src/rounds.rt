@@ -2,9 +2,9 @@
 
 use crate::asked::Asking;
 use crate::fault::{DrawingFault, ReportFault, fault_at};
-use crate::told::{Line, Outcome, Plain, RequestLine};
 use std::alloc::{AllocError, AllocFailed, Global};
 use zio_report::RoundHead;
+use zio_told::{Line, Outcome, Plain, RequestLine};
 use zio_types::{Entry, Place, ReqNo};
 
 /// The sectors of the largest image.

@@ -5,11 +5,12 @@ use crate::frame::{
     ATTEMPTS_X, Area, CAPTION_HEIGHT, CHAR_WIDTH, ENDED_X, INDENT, LINE_WIDTH, PANEL_HEAD,
     PANEL_WIDTH, PANEL_X, Point, RESULT_WIDTH, RESULT_X, ROW_HEIGHT, count,
 };
-use crate::markup::{Markup, Piece};
 use crate::plan::Panel;
 use crate::rounds::{Round, Row, Step};
-use crate::told::{Outcome, errno_word};
+use crate::shapes::Shapes;
 use Piece::{Fixed, Number, Outside};
+use zio_markup::{Markup, Piece};
+use zio_told::{Outcome, errno_word};
 use zio_types::NoMemory;
 
 /// The most attempts that are drawn one by one.

@@ -1,12 +1,40 @@
 //! Rectangles, lines, texts, and titles that show on hover.
 
 use crate::frame::{Area, Point};
-use crate::markup::{Markup, Piece};
 use Piece::{Fixed, Number};
+use zio_markup::{Markup, Piece};
 use zio_types::NoMemory;
 
-impl Markup {
-    pub(crate) fn area(&mut self, class: &'static str, area: Area) -> Result<(), NoMemory> {
+/// Shapes in the text of a picture.
+pub(crate) trait Shapes {
+    fn area(&mut self, class: &'static str, area: Area) -> Result<(), NoMemory>;
+
+    fn line(&mut self, class: &'static str, from: Point, to: Point) -> Result<(), NoMemory>;
+
+    /// An arrow's head that points to the right, and ends at the point.
+    fn arrow(&mut self, at: Point) -> Result<(), NoMemory>;
+
+    fn begin_text(&mut self, class: &'static str, at: Point) -> Result<(), NoMemory>;
+
+    fn end_text(&mut self) -> Result<(), NoMemory>;
+
+    fn text(
+        &mut self,
+        class: &'static str,
+        at: Point,
+        pieces: &[Piece<'_>],
+    ) -> Result<(), NoMemory>;
+
+    /// Begins a group whose title comes first.
+    fn begin_title(&mut self) -> Result<(), NoMemory>;
+
+    fn end_title(&mut self) -> Result<(), NoMemory>;
+
+    fn end_titled(&mut self) -> Result<(), NoMemory>;
+}
+
+impl Shapes for Markup {
+    fn area(&mut self, class: &'static str, area: Area) -> Result<(), NoMemory> {
         self.put(&[
             Fixed("<rect class=\""),
             Fixed(class),
@@ -22,12 +50,7 @@ impl Markup {
         ])
     }
 
-    pub(crate) fn line(
-        &mut self,
-        class: &'static str,
-        from: Point,
-        to: Point,
-    ) -> Result<(), NoMemory> {
+    fn line(&mut self, class: &'static str, from: Point, to: Point) -> Result<(), NoMemory> {
         self.put(&[
             Fixed("<path class=\""),
             Fixed(class),
@@ -43,8 +66,7 @@ impl Markup {
         ])
     }
 
-    /// An arrow's head that points to the right, and ends at the point.
-    pub(crate) fn arrow(&mut self, at: Point) -> Result<(), NoMemory> {
+    fn arrow(&mut self, at: Point) -> Result<(), NoMemory> {
         self.put(&[
             Fixed("<path class=\"arrow\" d=\"M"),
             Number(at.x),
@@ -54,7 +76,7 @@ impl Markup {
         ])
     }
 
-    pub(crate) fn begin_text(&mut self, class: &'static str, at: Point) -> Result<(), NoMemory> {
+    fn begin_text(&mut self, class: &'static str, at: Point) -> Result<(), NoMemory> {
         self.put(&[
             Fixed("<text class=\""),
             Fixed(class),
@@ -66,11 +88,11 @@ impl Markup {
         ])
     }
 
-    pub(crate) fn end_text(&mut self) -> Result<(), NoMemory> {
+    fn end_text(&mut self) -> Result<(), NoMemory> {
         self.put(&[Fixed("</text>\n")])
     }
 
-    pub(crate) fn text(
+    fn text(
         &mut self,
         class: &'static str,
         at: Point,
@@ -81,16 +103,15 @@ impl Markup {
         self.end_text()
     }
 
-    /// Begins a group whose title comes first.
-    pub(crate) fn begin_title(&mut self) -> Result<(), NoMemory> {
+    fn begin_title(&mut self) -> Result<(), NoMemory> {
         self.put(&[Fixed("<g><title>")])
     }
 
-    pub(crate) fn end_title(&mut self) -> Result<(), NoMemory> {
+    fn end_title(&mut self) -> Result<(), NoMemory> {
         self.put(&[Fixed("</title>\n")])
     }
 
-    pub(crate) fn end_titled(&mut self) -> Result<(), NoMemory> {
+    fn end_titled(&mut self) -> Result<(), NoMemory> {
         self.put(&[Fixed("</g>\n")])
     }
 }

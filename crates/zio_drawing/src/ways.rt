@@ -2,13 +2,14 @@
 
 use crate::asked::Asking;
 use crate::frame::{PANEL_X, Point, ROW_HEIGHT};
-use crate::markup::{Markup, Piece};
 use crate::plan::Panel;
 use crate::rounds::{Round, Step};
-use crate::told::Outcome;
+use crate::shapes::Shapes;
 use Piece::{Fixed, Number};
 use indexmap::IndexMap;
 use std::alloc::Global;
+use zio_markup::{Markup, Piece};
+use zio_told::Outcome;
 use zio_types::{NoMemory, ReqNo};
 
 /// What waits, with the heights where it began to.

@@ -1,0 +1,14 @@
+pub mod CountLemmas
+pub mod GatherLemmas
+pub mod GatherSteps
+pub mod HearLemmas
+pub mod LayoutLemmas
+pub mod ListLemmas
+pub mod MendLemmas
+pub mod MendSteps
+pub mod PickLemmas
+pub mod PieceSteps
+pub mod PlaceLemmas
+pub mod ReadSteps
+pub mod RepairLemmas
+pub mod WaitLemmas

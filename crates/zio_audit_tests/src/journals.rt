@@ -27,7 +27,11 @@ fn counts(alloc: Global, report: &[u8]) -> Result<Vec<(usize, usize)>, NoMemory>
     let Some(mut journals) = journals(alloc, report)? else {
         return Ok(counts);
     };
-    while let Some(journal) = journals.next(alloc)? {
+    // There are fewer rounds than bytes.
+    for _byte in report {
+        let Some(journal) = journals.next(alloc)? else {
+            break;
+        };
         counts.push((journal.entries.len(), journal.order.len()))?;
     }
     Ok(counts)

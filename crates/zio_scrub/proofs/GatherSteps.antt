@@ -1,7 +1,7 @@
 -- The pieces one after another.
-use Rattle.std.proofs.Common.{◌≡◌, ℕ, zero, suc, ◌+◌, ◌-◌, ◌<◌, ◌≤◌, List, [], ◌∷◌, ◌++◌, append_assoc, length, length-drop, map, get_or, take, drop, Option, Some, None, IfSome, Ok, refl, sym, ap, subst, ◌∙◌, arith, false, Contains}
+use Rattle.std.proofs.Common.{◌≡◌, ℕ, zero, suc, ◌+◌, ◌-◌, ◌<◌, ◌≤◌, List, [], ◌∷◌, ◌++◌, append_assoc, length, length-append, length-drop, map, get_or, take, drop, Option, Some, None, IfSome, Ok, refl, sym, ap, subst, ◌∙◌, arith, false, Contains}
 use Rattle.std.specs.List.{AllByRecursion}
-use Rattle.std.proofs.lemmas.List.{append-nil, get_or_read, length-take}
+use Rattle.std.proofs.lemmas.List.{append-nil, get_or_read, length-map, length-take}
 use Rattle.zio_cksum.specs.Images.{Images, Setting, Spot}
 use Rattle.zio_cksum.proofs.AllLemmas.{all_append}
 use Rattle.zio_groups.proofs.IssueLemmas.{contains_at, taken_more}
@@ -147,6 +147,40 @@ room_next layout h p n lost lost_now sound heard at more low m next =
     let within = sound.within p n at in
     let len = heard.heard.marks in
     omega (arith, lost_most (source_at h p) (slice h.marks.items n), slice_length h.marks.items n.first n.count (omega arith))
+
+bad_most : (ms : List Mark) (cs : List CopyAt) → length (bad_marked ms cs) ≤ length ms
+bad_most [] cs = omega arith
+bad_most (m ∷ ms) [] = omega arith
+bad_most (m ∷ ms) (c ∷ cs) = by m (bad_most ms cs)
+  where
+    by : (x : Mark) → length (bad_marked ms cs) ≤ length ms → length (marked_if x c.spot (bad_marked ms cs)) ≤ length (m ∷ ms)
+    by Out h = omega arith
+    by Good h = omega arith
+    by Bad h = omega arith
+
+settled_most : (source : Option Source) (ms : List Mark) (cs : List CopyAt) → length (settled_repairs source ms cs) ≤ length ms
+settled_most None ms cs = omega arith
+settled_most (Some src) ms cs =
+    let written : Spot → Repair = λ u. record { spot = u; bytes = src.bytes } in
+    let same : length (map written (bad_marked ms cs)) ≡ length (bad_marked ms cs) = length-map (bad_marked ms cs) written in
+    let most = bad_most ms cs in
+    omega arith
+
+-- the repairs of the pieces so far are no more than their copies
+pub few_next : (layout : Layout) (h : Heard) (p : ℕ) (n : Numbered) (old new : List Repair) → IsSound layout → AreAllHeard layout h → IsAt layout.pieces p n
+    → new ≡ old ++ settled_repairs (source_at h p) (slice h.marks.items n) (slice layout.copies n) → length old ≤ n.first
+    → length new ≤ n.first + n.count
+few_next layout h p n old new sound heard at more low =
+    let within = sound.within p n at in
+    let len = heard.heard.marks in
+    let e = ap (λ (rs : List Repair). length rs) more in
+    omega (
+      arith,
+      e,
+      length-append old (settled_repairs (source_at h p) (slice h.marks.items n) (slice layout.copies n)),
+      settled_most (source_at h p) (slice h.marks.items n) (slice layout.copies n),
+      slice_length h.marks.items n.first n.count (omega arith),
+    )
 
 from_marked : (layout : Layout) (bytes : List ℕ) (ms : List Mark) (cs : List CopyAt)
     → ((i : ℕ) (c : CopyAt) → i < length cs → get_or cs i c ≡ c → Contains layout.copies c × (length bytes ≤ c.spot.span))

@@ -4,13 +4,13 @@ use Rattle.std.specs.List.{AllByRecursion}
 use Rattle.std.proofs.lemmas.List.{length-map, append-nil}
 use Rattle.zio_blkptr.specs.Pointers.{valid}
 use Rattle.zio_cksum.specs.Images.{Setting, Spot}
-use Rattle.zio_cksum.proofs.AllLemmas.{all_true}
+use Rattle.zio_cksum.proofs.AllLemmas.{all_append, all_true}
 use Rattle.zio_groups.proofs.IssueLemmas.{taken_more}
 use Rattle.zio_scrub.specs.declared.layout.CopyAt.{CopyAt}
 use Rattle.zio_scrub.specs.declared.layout.Layout.{Layout}
 use Rattle.zio_scrub.specs.declared.layout.Numbered.{Numbered}
 use Rattle.zio_scrub.specs.declared.pieces.Piece.{Piece}
-use Rattle.zio_scrub.specs.Layouts.{IsCopyOn, IsLayoutOf, IsReadable, copies_from, numbered_from, spots_at}
+use Rattle.zio_scrub.specs.Layouts.{HasPlace, IsCopyOn, IsLayoutOf, IsReadable, copies_from, numbered_from, spots_at}
 use Rattle.zio_scrub.specs.Pieces.{seen}
 use Rattle.zio_scrub.specs.Reads.{IsSound}
 
@@ -279,6 +279,11 @@ pub next_copies : (s : Setting) (ps : List Piece) (i : ℕ) (d : Piece) (numbere
     → new ≡ copies_from s 0 (take (i + 1) ps)
 next_copies s ps i d numbered old new l a b e =
     laid_copies s (take i ps) (take (i + 1) ps) (get_or ps i d) numbered old new (taken_more ps i (get_or ps i d) l (got_same ps i d l)) a b e
+
+pub next_some : (ps : List Piece) (i : ℕ) (d : Piece) → i < length ps → AllByRecursion HasPlace (take i ps) → HasPlace (get_or ps i d)
+    → AllByRecursion HasPlace (take (i + 1) ps)
+next_some ps i d l h k =
+    subst (AllByRecursion HasPlace) (sym (taken_more ps i (get_or ps i d) l (got_same ps i d l))) (all_append HasPlace (take i ps) (get_or ps i d ∷ []) h (k, tt))
 
 -- ---- the copies of one piece
 

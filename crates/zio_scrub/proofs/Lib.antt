@@ -1,3 +1,4 @@
+pub mod ClearPieces
 pub mod CountLemmas
 pub mod GatherLemmas
 pub mod GatherSteps
@@ -6,9 +7,13 @@ pub mod LayoutLemmas
 pub mod ListLemmas
 pub mod MendLemmas
 pub mod MendSteps
+pub mod MendedPieces
 pub mod PickLemmas
 pub mod PieceSteps
 pub mod PlaceLemmas
 pub mod ReadSteps
+pub mod ReadablePieces
 pub mod RepairLemmas
+pub mod TreePieces
 pub mod WaitLemmas
+pub mod WholeScrubs

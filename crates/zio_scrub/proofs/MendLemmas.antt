@@ -64,7 +64,7 @@ abbrev pub as_store : Repair → LeafOp
 as_store r = Store false r.bytes r.spot
 
 -- a read is the same after writes that are clear of it
-mend_elsewhere : (s : Setting) (sizes : ℕ → ℕ) (rs : List Repair) (images : Images) (len : ℕ) (u : Spot)
+pub mend_elsewhere : (s : Setting) (sizes : ℕ → ℕ) (rs : List Repair) (images : Images) (len : ℕ) (u : Spot)
     → HaveSizes sizes images → LiesOn sizes (Fetch false len u) → AllByRecursion (λ (r : Repair). LiesOn sizes (as_store r)) rs
     → AllByRecursion (λ (r : Repair). AreClear r.spot u) rs
     → read_leaf s false (mend s rs images).images len u ≡ read_leaf s false images len u
@@ -99,7 +99,7 @@ errors_are s (r ∷ rs) images =
 
 -- ---- pieces
 
-lies_as_store : (sizes : ℕ → ℕ) (s : Setting) (images : Images) (p : Piece) → PieceLies sizes s p
+pub lies_as_store : (sizes : ℕ → ℕ) (s : Setting) (images : Images) (p : Piece) → PieceLies sizes s p
     → AllByRecursion (λ (r : Repair). LiesOn sizes (as_store r)) (repairs_of s images p)
 lies_as_store sizes s images p h =
     all_weaker (λ (r : Repair). LiesOn sizes (Fetch false p.size r.spot)) (λ (r : Repair). LiesOn sizes (as_store r)) (repairs_of s images p)
@@ -107,7 +107,7 @@ lies_as_store sizes s images p h =
     (repairs_in (λ (u : Spot). LiesOn sizes (Fetch false p.size u)) s images p h)
 
 -- what a piece asks for is the same after repairs that are clear of its copies
-piece_same : (s : Setting) (sizes : ℕ → ℕ) (rs : List Repair) (images : Images) (q : Piece) → HaveSizes sizes images → PieceLies sizes s q
+pub piece_same : (s : Setting) (sizes : ℕ → ℕ) (rs : List Repair) (images : Images) (q : Piece) → HaveSizes sizes images → PieceLies sizes s q
     → AllByRecursion (λ (r : Repair). LiesOn sizes (as_store r)) rs
     → AllByRecursion (λ (u : Spot). AllByRecursion (λ (r : Repair). AreClear r.spot u) rs) (copies_of s q)
     → (map (copy_read s (mend s rs images).images q) (copies_of s q) ≡ map (copy_read s images q) (copies_of s q))

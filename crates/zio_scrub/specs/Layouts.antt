@@ -1,7 +1,7 @@
 -- The copies of pieces, numbered, and which copies can be read.
 use Rattle.std.specs.Prelude.{◌≡◌, ℕ, ◌+◌, ◌<◌, ◌≤◌, ◌^◌, List, [], ◌∷◌, ◌++◌, length, map, slice_index_or, IsTrue}
 use Rattle.std.specs.List.{AllByRecursion, flat_map}
-use Rattle.zio_blkptr.specs.Pointers.{valid}
+use Rattle.zio_blkptr.specs.Pointers.{places_of, valid}
 use Rattle.zio_cksum.specs.Images.{Setting, Spot}
 use Rattle.zio_scrub.specs.declared.layout.CopyAt.{CopyAt}
 use Rattle.zio_scrub.specs.declared.layout.Layout.{Layout}
@@ -34,6 +34,10 @@ LiesOnDisks sizes spot = spot.at + spot.span ≤ slice_index_or sizes spot.leaf 
 pub record IsReadable (s : Setting) (sizes : List ℕ) (piece : Piece) : Type 0 where
   pub ok : IsTrue (valid piece.pointer)
   pub spots : AllByRecursion (IsCopyOn sizes (seen piece).size) (spots_at s piece)
+
+-- its pointer has a place
+abbrev pub HasPlace : Piece → Type 0
+HasPlace piece = 1 ≤ length (places_of piece.pointer)
 
 abbrev pub copies_of_all : Setting → List Piece → List Spot
 copies_of_all s pieces = flat_map (copies_of s) (all_seen pieces)

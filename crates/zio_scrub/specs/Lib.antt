@@ -1,4 +1,6 @@
+pub mod Ends
 pub mod Layouts
+pub mod Parts
 pub mod Pieces
 pub mod Queues
 pub mod Reads

@@ -5,7 +5,7 @@ ghost use Rattle.std.specs.List.{AllByRecursion};
 ghost use Rattle.zio_blkptr.specs.Pointers.{valid};
 ghost use Rattle.zio_cksum.specs.Blocks.{leaves_of, spot_in};
 ghost use Rattle.zio_cksum.specs.Frames.{spots_of};
-ghost use Rattle.zio_scrub.specs.Layouts.{IsLayoutOf, spots_at};
+ghost use Rattle.zio_scrub.specs.Layouts.{HasPlace, IsLayoutOf, spots_at};
 
 use crate::pieces::Piece;
 use std::alloc::Global;
@@ -43,6 +43,7 @@ pub(crate) fn lay_out<'a>(
 ) -> Result<Layout<'a>, Stop>
     requires { AllByRecursion (λ piece. IsTrue (valid piece.pointer)) pieces.now }
     ensures ok { IfOk result (IsLayoutOf setting.now pieces.now) }
+    ensures some { OnOk result (AllByRecursion HasPlace pieces.now) }
     ensures err { OnErr result (result ≡ Err Stop.Memory) }
 {
     let mut numbered = List::new(alloc);
@@ -69,6 +70,7 @@ fn add_piece<'a>(
         ∷ []) }
     ensures copies { OnOk result (copies.new ≡ copies.old
         ++ map (λ spot. record { spot = spot; piece = length numbered.old }) (spots_at setting.now piece.now)) }
+    ensures some { HasPlace piece.now }
     ensures err { OnErr result (result ≡ Err Stop.Memory) }
 {
     let number = numbered.len();

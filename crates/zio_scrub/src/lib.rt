@@ -1,10 +1,13 @@
-//! The two halves of a scrub: every copy of every piece is read once, and what can be mended is written.
+//! The scrub of bound blocks: every copy of every piece is read once, and what can be mended is written.
 //!
-//! It stands on the leaves' queues of `zio_groups`. Read `read_pieces` first: where the disks tell their images it gives
-//! the repairs that the definition asks for (`specs/Scrubs`), whatever the order in which the queues were served. `mend`
-//! makes them: where no two of their copies have a byte in common it leaves the definition's images, in any order.
+//! It stands on the leaves' queues of `zio_groups`. Read `scrub` first: where the disks tell their images it leaves those
+//! of the definition (`specs/Scrubs`), and counts what that counts, whatever the order in which the queues were served. It
+//! is made of two halves: `read_pieces` gives the repairs that the definition asks for, and `mend` makes them. `specs/Pieces`
+//! says which blocks can be scrubbed, and `specs/Ends` what is good afterwards.
 #![tactic(auto)]
 
+mod blocks;
+mod ending;
 mod heard;
 mod laws;
 mod layout;
@@ -12,8 +15,11 @@ mod pieces;
 mod queues;
 mod reads;
 mod repairs;
+mod scrubs;
 
+pub use ending::ScrubEnd;
 pub use laws::a_scrub_makes_its_repairs;
 pub use pieces::Piece;
 pub use reads::{Reading, read_pieces};
 pub use repairs::{Mended, Repair, mend};
+pub use scrubs::scrub;

@@ -6,7 +6,7 @@ ghost use Rattle.zio_faults.specs.Hits.{RowFits};
 ghost use Rattle.zio_cksum.specs.Images.{Images, Setting as SeenSetting};
 ghost use Rattle.zio_disks.specs.Disks.{Handles, Tell};
 ghost use Rattle.zio_scrub.specs.declared.pieces.Piece.{Piece as SeenPiece};
-ghost use Rattle.zio_scrub.specs.Layouts.{FitsQueue, IsLayoutOf, IsReadable, LiesOnDisks, copies_of_all};
+ghost use Rattle.zio_scrub.specs.Layouts.{FitsQueue, HasPlace, IsLayoutOf, IsReadable, LiesOnDisks, copies_of_all};
 ghost use Rattle.zio_scrub.specs.Pieces.{all_seen};
 ghost use Rattle.zio_scrub.specs.Queues.{AllWait, HaveAll, IsOrdered};
 ghost use Rattle.zio_scrub.specs.Reads.{AreAllHeard, AreHearable, AreOut, IsHeard, IsReadOf, IsSound, IsFrom, IsTrueOf, IsTruthful, bad_marked, is_answered, is_out, leaf_at, lost_marked, mark_at, read_op, settled_lost, settled_repairs, slice};
@@ -51,6 +51,8 @@ pub fn read_pieces<D: Disk>(
         × (reading.lost ≡ all_lost setting.now images (all_seen pieces.now))
         × Tell D.image disks.new images) }
     ensures copies { IfOk result (λ reading. reading.copies ≡ length (copies_of_all setting.now pieces.now)) }
+    ensures few { IfOk result (λ reading. length reading.repairs ≤ reading.copies) }
+    ensures some { OnOk result (AllByRecursion HasPlace pieces.now) }
     ensures fits { IfOk result (λ reading. AllByRecursion (IsRepairOn (map D.bytes disks.old)) reading.repairs) }
     ensures among { IfOk result (λ reading. AllByRecursion
         (λ repair. Contains (copies_of_all setting.now pieces.now) repair.spot) reading.repairs) }
@@ -152,6 +154,7 @@ fn gather(alloc: Global, layout: &Layout, heard: Heard) -> Result<Reading, Stop>
         IsLayoutOf s pieces layout.now → IsTrueOf s images layout.now heard →
         (reading.repairs ≡ all_repairs s images (all_seen pieces)) × (reading.lost ≡ all_lost s images (all_seen pieces))) }
     ensures copies { IfOk result (λ reading. reading.copies ≡ length layout.now.copies) }
+    ensures few { IfOk result (λ reading. length reading.repairs ≤ length layout.now.copies) }
     ensures from { IfOk result (λ reading. AllByRecursion (IsFrom layout.now) reading.repairs) }
     ensures err { OnErr result (result ≡ Err Stop.Memory) }
 {

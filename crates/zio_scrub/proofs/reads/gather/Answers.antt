@@ -1,14 +1,17 @@
-use Rattle.std.proofs.Common.{◌≡◌, ◌<◌, ◌+◌, ◌++◌, ◌∙◌, ℕ, List, Option, length, get_or, sym, subst, ap, arith, refl}
+use Rattle.std.proofs.Common.{◌≡◌, ◌<◌, ◌≤◌, ◌+◌, ◌++◌, [], ◌∙◌, ℕ, List, Option, length, get_or, sym, subst, ap, arith, refl}
 use Rattle.std.specs.List.{AllByRecursion}
 use Rattle.zio_scrub.specs.declared.heard.Mark.{Mark}
 use Rattle.zio_scrub.specs.declared.heard.Source.{Source}
 use Rattle.zio_scrub.specs.declared.layout.Numbered.{Numbered}
 use Rattle.zio_scrub.specs.declared.repairs.Repair.{Repair}
 use Rattle.zio_scrub.specs.Reads.{IsAt, IsFrom, no_numbered, settled_lost, settled_repairs, slice, source_at}
-use Rattle.zio_scrub.proofs.GatherSteps.{from_next, room_next, source_is, told_last, told_next}
+use Rattle.zio_scrub.proofs.GatherSteps.{few_next, from_next, room_next, source_is, told_last, told_next}
 use Rattle.zio_scrub.proofs.HearLemmas.{at_default}
 use Rattle.zio_scrub.proofs.ListLemmas.{drop_end, head_of}
 use Rattle.zio_scrub.proofs.reads.gather.Goals as goal
+
+none_yet : (repairs : List Repair) (n : ℕ) → repairs ≡ [] → length repairs ≤ n
+none_yet repairs n e = let l = ap (λ (rs : List Repair). length rs) e in omega arith
 
 pub loop-source-init : goal.loop-source-init
 loop-source-init c = record {
@@ -17,6 +20,8 @@ loop-source-init c = record {
   copies = c.len.ensures;
   told = λ s images ps laid true_of. (c.new.ensures, refl);
   room = λ n at. omega arith;
+  few = λ n at. none_yet c.new.result n.first c.new.ensures;
+  most = none_yet c.new.result (length c.args.layout.now.copies) c.new.ensures;
   from = subst (λ (xs : List Repair). AllByRecursion (IsFrom c.args.layout.now) xs) (sym c.new.ensures) tt;
 }
 
@@ -41,6 +46,8 @@ loop-source-preserved c =
     c.in_ok-settle_piece.ensures.lost
     ∙ ap (λ (ms : List Mark). c.loop-source.reading.lost + settled_lost c.in-Some.source (slice ms n)) c.as_slice-in-loop-source.ensures.value
     ∙ ap (λ (o : Option Source). c.loop-source.reading.lost + settled_lost o (slice h.marks.items n)) src in
+    let few : length c.settle_piece.new.reading.repairs ≤ n.first + n.count =
+    few_next layout h p n old c.settle_piece.new.reading.repairs c.requires.sound c.requires.heard at repairs (c.loop-source.invariant.few n at) in
     record {
       rest = head.rest_is;
       within = omega arith;
@@ -50,6 +57,8 @@ loop-source-preserved c =
           c.requires.sound c.requires.heard laid true_of at repairs lost (c.loop-source.invariant.told s images ps laid true_of);
       room = room_next layout h p n c.loop-source.reading.lost c.settle_piece.new.reading.lost c.requires.sound c.requires.heard at lost
           (c.loop-source.invariant.room n at);
+      few = λ m next. let rise = c.requires.sound.rising p n m at next in let low = few in omega arith;
+      most = let within = c.requires.sound.within p n at in let low = few in omega arith;
       from = from_next layout h p n old c.settle_piece.new.reading.repairs c.requires.sound c.requires.heard at repairs c.loop-source.invariant.from;
     }
 

@@ -18,5 +18,7 @@ invariant-loop-source l = record {
       (l.reading.repairs ≡ all_repairs s images (all_seen (take l.number pieces)))
       × (l.reading.lost ≡ all_lost s images (all_seen (take l.number pieces)));
   room : (n : Numbered) → IsAt l.layout.pieces l.number n → l.reading.lost ≤ n.first;
+  few : (n : Numbered) → IsAt l.layout.pieces l.number n → length l.reading.repairs ≤ n.first;
+  most : length l.reading.repairs ≤ length l.layout.copies;
   from : AllByRecursion (IsFrom l.layout) l.reading.repairs;
 }

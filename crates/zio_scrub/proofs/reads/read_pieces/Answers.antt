@@ -1,11 +1,13 @@
-use Rattle.std.proofs.Common.{◌∙◌, ℕ, List, [], length, map, replicate, None, Option, sym, subst, ap}
+use Rattle.std.proofs.Common.{◌≡◌, ◌∙◌, ◌≤◌, ℕ, List, [], length, map, Result, Ok, Err, IfOk, arith, replicate, None, Option, sym, subst, ap}
 use Rattle.std.specs.List.{AllByRecursion}
 use Rattle.std.proofs.lemmas.Result.{IfOk-weaker}
 use Rattle.zio_disks.proofs.DiskLemmas.{handles_after, handles_none, not_device}
+use Rattle.zio_disks.specs.declared.setting.Stop.{Stop}
 use Rattle.zio_groups.proofs.CoverLemmas.{memory_on}
 use Rattle.zio_scrub.specs.declared.heard.Mark.TheVariants.{Out}
 use Rattle.zio_scrub.specs.declared.heard.Source.{Source}
 use Rattle.zio_scrub.specs.declared.layout.CopyAt.{CopyAt}
+use Rattle.zio_scrub.specs.declared.reads.Reading.{Reading}
 use Rattle.zio_scrub.specs.Layouts.{FitsQueue}
 use Rattle.zio_scrub.specs.Queues.{HaveAll}
 use Rattle.zio_scrub.specs.Reads.{IsReadOf, leaf_at}
@@ -72,6 +74,14 @@ returns-clause-told g c =
 pub returns-clause-copies : goal.returns-clause-copies
 returns-clause-copies g c =
     IfOk-weaker c.gather.result _ _ (λ reading h. h ∙ copies_count c.args.setting.now c.args.pieces.now c.in_ok-layout.layout c.in_ok-layout.ensures.ok) c.gather.ensures.copies
+
+pub returns-clause-few : goal.returns-clause-few
+returns-clause-few g c = two_of c.gather.result c.gather.ensures.copies c.gather.ensures.few
+  where
+    two_of : (r : Result Reading Stop) → IfOk r (λ reading. reading.copies ≡ length c.in_ok-layout.layout.copies)
+        → IfOk r (λ reading. length reading.repairs ≤ length c.in_ok-layout.layout.copies) → IfOk r (λ reading. length reading.repairs ≤ reading.copies)
+    two_of (Ok reading) h k = omega arith
+    two_of (Err e) h k = tt
 
 pub returns-clause-fits : goal.returns-clause-fits
 returns-clause-fits g c =

@@ -1,6 +1,6 @@
 //! A block of a sector on a mirror of two is scrubbed: both copies are read once, and a bad one is written.
 
-ghost use Rattle.std.specs.Prelude.{◌≡◌, ◌∷◌, ◌<◌, [], IfOk, length};
+ghost use Rattle.std.specs.Prelude.{◌≡◌, ◌∷◌, ◌<◌, [], IfOk, length, map};
 ghost use Rattle.std.specs.List.{AllByRecursion};
 ghost use Rattle.zio_faults.specs.Hits.{RowFits};
 ghost use Rattle.zio_outside.specs.Memory.{disk_image};
@@ -11,8 +11,10 @@ use std::test::Fail;
 use zio_blkptr::{Bp, SumKind};
 use zio_disks::Setting;
 use zio_faults::{FaultKind, FaultTable, On, Row};
+use zio_gang::{Bound, Tree};
 use zio_outside::MemDisk;
-use zio_scrub::{Piece, mend, read_pieces};
+use zio_script::Name;
+use zio_scrub::{ScrubEnd, scrub};
 use zio_types::{List, Place, Top};
 
 const LEAF_LEN: usize = 65536;
@@ -57,9 +59,9 @@ const POINTER: Bp = Bp {
 struct Case {
     held: [bool; 2],
     fault: Option<(On, FaultKind)>,
-    lost: usize,
     repaired: u64,
     failed: u64,
+    lost: u64,
     held_after: [bool; 2],
     writes: [u64; 2],
 }
@@ -120,27 +122,44 @@ fn disk(alloc: Global, held: bool) -> Result<MemDisk, Fail>
     }
 }
 
+/// The block under a name.
+fn bound_block(alloc: Global) -> Result<Bound, Fail>
+    ensures { IfOk result (λ bound. bound.tree ≡ record { bp = POINTER; heads = [] }) }
+{
+    let Some(name) = Name::from_word(b"a") else {
+        return Err(Fail::from("no name"));
+    };
+    Ok(Bound {
+        name,
+        tree: Tree::plain(alloc, POINTER),
+    })
+}
+
+/// The scrub of the block.
+fn scrub_block(alloc: Global, setting: &Setting, disks: &mut [MemDisk]) -> Result<ScrubEnd, Fail>
+    requires tops { setting.now.tops ≡ record { leaves = 0 ∷ 1 ∷ []; sectors = 128; unit = 1 } ∷ [] }
+    requires rows { AllByRecursion RowFits setting.now.rows }
+    requires sizes { map (λ d. length (disk_image d)) disks.old ≡ 65536 ∷ 65536 ∷ [] }
+{
+    let bound = [bound_block(alloc)?];
+    match scrub(alloc, setting, disks, &bound) {
+        Ok(end) => Ok(end),
+        Err(_) => Err(Fail::from("the scrub was stopped")),
+    }
+}
+
 fn check(rt: &impl Abort, alloc: Global, case: &Case) -> Result<(), Fail> {
     let setting = mirror(alloc, case.fault)?;
     let mut disks = [disk(alloc, case.held[0])?, disk(alloc, case.held[1])?];
-    let pieces = [Piece {
-        pointer: POINTER,
-        kept: None,
-    }];
-    let Ok(reading) = read_pieces(alloc, &setting, &mut disks, &pieces) else {
-        return Err(Fail::from("the reads were stopped"));
+    let end = scrub_block(alloc, &setting, &mut disks)?;
+    let want = ScrubEnd {
+        blocks: 1,
+        copies: 2,
+        repaired: case.repaired,
+        failed: case.failed,
+        lost: case.lost,
     };
-    assert_eq!(rt; reading.copies, 2);
-    assert_eq!(rt; reading.lost, case.lost);
-    assert!(rt; reading.repairs.len() <= 2, "a copy is written once");
-    for disk in &disks {
-        assert_eq!(rt; disk.writes(), 0, "a read writes nothing");
-    }
-    let Ok(mended) = mend(alloc, &setting, &mut disks, reading.repairs) else {
-        return Err(Fail::from("the writes were stopped"));
-    };
-    assert_eq!(rt; mended.repaired, case.repaired);
-    assert_eq!(rt; mended.failed, case.failed);
+    assert_eq!(rt; end, want);
     for (leaf, disk) in disks.iter().enumerate() {
         let want = if case.held_after[leaf] {
             &BLOCK
@@ -153,6 +172,7 @@ fn check(rt: &impl Abort, alloc: Global, case: &Case) -> Result<(), Fail> {
             "leaf {leaf}"
         );
         assert_eq!(rt; disk.writes(), case.writes[leaf], "leaf {leaf}");
+        assert!(rt; disk.reads() <= 1, "leaf {leaf} is read once");
     }
     Ok(())
 }
@@ -163,9 +183,9 @@ fn a_scrub_writes_bad_copies_alone(rt: HostRuntime) -> Result<(), Fail> {
     let clean = Case {
         held: [true, true],
         fault: None,
-        lost: 0,
         repaired: 0,
         failed: 0,
+        lost: 0,
         held_after: [true, true],
         writes: [0, 0],
     };

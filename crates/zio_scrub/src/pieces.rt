@@ -9,7 +9,7 @@ use zio_cksum::verify;
 
 /// A piece of a block: the header of a gang, or the bytes of a pointer that is none.
 #[derive(Clone, Copy)]
-pub struct Piece<'a> {
+pub(crate) struct Piece<'a> {
     pub pointer: Bp,
     /// Of a header the bytes that are kept of it. Where none are kept no copy is good.
     pub kept: Option<&'a [u8; 512]>,

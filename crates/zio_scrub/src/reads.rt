@@ -27,7 +27,7 @@ use zio_vqueue::Op;
 
 /// What the reads of all copies come to.
 #[derive(Drop)]
-pub struct Reading {
+pub(crate) struct Reading {
     /// The copies to be written, in the order of the pieces.
     pub repairs: List<Repair>,
     /// How many copies there are.
@@ -37,7 +37,7 @@ pub struct Reading {
 }
 
 /// Reads each copy of the pieces once.
-pub fn read_pieces<D: Disk>(
+pub(crate) fn read_pieces<D: Disk>(
     alloc: Global,
     setting: &Setting,
     disks: &mut [D],

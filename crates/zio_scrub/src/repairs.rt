@@ -20,20 +20,20 @@ use zio_vqueue::Op;
 
 /// Bytes that a copy is to be written with.
 #[derive(Debug, Drop)]
-pub struct Repair {
+pub(crate) struct Repair {
     pub spot: Spot,
     pub bytes: Bytes,
 }
 
 /// How many copies were written, and how many writes failed.
 #[derive(Clone, Copy, Debug)]
-pub struct Mended {
+pub(crate) struct Mended {
     pub repaired: u64,
     pub failed: u64,
 }
 
 /// Writes the copies.
-pub fn mend<D: Disk>(
+pub(crate) fn mend<D: Disk>(
     alloc: Global,
     setting: &Setting,
     disks: &mut [D],

@@ -95,7 +95,7 @@ place_in tree p c =
     flat_contains places_of (tree_pointers tree) x.0.pointer p
     (all_contains (λ (q : Piece). Contains (tree_pointers tree) q.pointer) (pieces_of tree) x.0 (pieces_among tree) x.1) x.2
 
-places_in : (trees : List Tree) (p : Place) → Contains (piece_places (pieces_in trees)) p → Contains (flat_map tree_places trees) p
+pub places_in : (trees : List Tree) (p : Place) → Contains (piece_places (pieces_in trees)) p → Contains (flat_map tree_places trees) p
 places_in trees p c =
     let x = contains_flat (λ (q : Piece). places_of q.pointer) (pieces_in trees) p c in
     let t = contains_flat pieces_of trees x.0 x.1 in

@@ -8,9 +8,11 @@ pub mod ListLemmas
 pub mod MendLemmas
 pub mod MendSteps
 pub mod MendedPieces
+pub mod PackedPlaces
 pub mod PickLemmas
 pub mod PieceSteps
 pub mod PlaceLemmas
+pub mod PoolBlocks
 pub mod ReadSteps
 pub mod ReadablePieces
 pub mod RepairLemmas

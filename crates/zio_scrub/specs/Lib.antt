@@ -2,6 +2,7 @@ pub mod Ends
 pub mod Layouts
 pub mod Parts
 pub mod Pieces
+pub mod Pools
 pub mod Queues
 pub mod Reads
 pub mod Repairs

@@ -18,5 +18,5 @@ mod repairs;
 mod scrubs;
 
 pub use ending::ScrubEnd;
-pub use laws::a_scrub_makes_its_repairs;
+pub use laws::{a_scrub_makes_its_repairs, blocks_of_a_pool_can_be_scrubbed};
 pub use scrubs::scrub;

@@ -1,5 +1,6 @@
 pub mod Ends
 pub mod Layouts
+pub mod Lines
 pub mod Parts
 pub mod Pieces
 pub mod Pools

@@ -11,7 +11,9 @@ mod ending;
 mod heard;
 mod laws;
 mod layout;
+mod lines;
 mod pieces;
+mod pools;
 mod queues;
 mod reads;
 mod repairs;
@@ -19,4 +21,5 @@ mod scrubs;
 
 pub use ending::ScrubEnd;
 pub use laws::{a_scrub_makes_its_repairs, blocks_of_a_pool_can_be_scrubbed};
+pub use pools::scrub_pool;
 pub use scrubs::scrub;

@@ -37,6 +37,12 @@ const PLACE: Place = Place {
     sectors: 1,
 };
 
+const NEXT_PLACE: Place = Place {
+    top: 0,
+    sector: 4,
+    sectors: 1,
+};
+
 const NO_PLACE: Place = Place {
     top: 0,
     sector: 0,
@@ -46,6 +52,17 @@ const NO_PLACE: Place = Place {
 const POINTER: Bp = Bp {
     count: 1,
     places: [PLACE, NO_PLACE, NO_PLACE],
+    gang: false,
+    size: 512,
+    sum: SumKind::Sha256,
+    birth: 1,
+    words: DIGEST,
+};
+
+/// The same bytes in the sector behind.
+const NEXT_POINTER: Bp = Bp {
+    count: 1,
+    places: [NEXT_PLACE, NO_PLACE, NO_PLACE],
     gang: false,
     size: 512,
     sum: SumKind::Sha256,
@@ -112,6 +129,16 @@ fn disk_with(alloc: Global, sector: usize, block: &[u8; 512]) -> Result<MemDisk,
     Ok(MemDisk::new(List::from_vec(image), List::new(alloc)))
 }
 
+/// Zeros, but for a block in each of the two sectors.
+fn two_blocks(alloc: Global) -> Result<MemDisk, Fail>
+    ensures { IfOk result (λ disk. length (disk_image disk) ≡ 65536) }
+{
+    let mut image = vec![in alloc; 0; LEAF_LEN]?;
+    image[1536..2048].copy_from_slice(&BLOCK);
+    image[2048..2560].copy_from_slice(&BLOCK);
+    Ok(MemDisk::new(List::from_vec(image), List::new(alloc)))
+}
+
 fn disk(alloc: Global, held: bool) -> Result<MemDisk, Fail>
     ensures { IfOk result (λ disk. length (disk_image disk) ≡ 65536) }
 {
@@ -122,26 +149,45 @@ fn disk(alloc: Global, held: bool) -> Result<MemDisk, Fail>
     }
 }
 
-/// The block under a name.
-fn bound_block(alloc: Global) -> Result<Bound, Fail>
-    ensures { IfOk result (λ bound. bound.tree ≡ record { bp = POINTER; heads = [] }) }
+/// A block under a name.
+fn bound_block(alloc: Global, name: &[u8], pointer: Bp) -> Result<Bound, Fail>
+    ensures { IfOk result (λ bound. bound.tree ≡ record { bp = pointer; heads = [] }) }
 {
-    let Some(name) = Name::from_word(b"a") else {
+    let Some(name) = Name::from_word(name) else {
         return Err(Fail::from("no name"));
     };
     Ok(Bound {
         name,
-        tree: Tree::plain(alloc, POINTER),
+        tree: Tree::plain(alloc, pointer),
     })
 }
 
-/// The scrub of the block.
+/// The scrub of one block.
 fn scrub_block(alloc: Global, setting: &Setting, disks: &mut [MemDisk]) -> Result<ScrubEnd, Fail>
     requires tops { setting.now.tops ≡ record { leaves = 0 ∷ 1 ∷ []; sectors = 128; unit = 1 } ∷ [] }
     requires rows { AllByRecursion RowFits setting.now.rows }
     requires sizes { map (λ d. length (disk_image d)) disks.old ≡ 65536 ∷ 65536 ∷ [] }
 {
-    let bound = [bound_block(alloc)?];
+    let bound = [bound_block(alloc, b"a", POINTER)?];
+    match scrub(alloc, setting, disks, &bound) {
+        Ok(end) => Ok(end),
+        Err(_) => Err(Fail::from("the scrub was stopped")),
+    }
+}
+
+/// The scrub of two blocks in sectors side by side.
+fn scrub_neighbours(
+    alloc: Global,
+    setting: &Setting,
+    disks: &mut [MemDisk],
+) -> Result<ScrubEnd, Fail>
+    requires tops { setting.now.tops ≡ record { leaves = 0 ∷ 1 ∷ []; sectors = 128; unit = 1 } ∷ [] }
+    requires rows { AllByRecursion RowFits setting.now.rows }
+    requires sizes { map (λ d. length (disk_image d)) disks.old ≡ 65536 ∷ 65536 ∷ [] }
+{
+    let first = bound_block(alloc, b"a", POINTER)?;
+    let second = bound_block(alloc, b"b", NEXT_POINTER)?;
+    let bound = [first, second];
     match scrub(alloc, setting, disks, &bound) {
         Ok(end) => Ok(end),
         Err(_) => Err(Fail::from("the scrub was stopped")),
@@ -228,6 +274,28 @@ fn a_scrub_writes_bad_copies_alone(rt: HostRuntime) -> Result<(), Fail> {
     };
     for case in [clean, one_bad, other_bad, lost, fails, unreadable, flipped] {
         check(&rt, rt.alloc(), &case)?;
+    }
+    Ok(())
+}
+
+/// Copies side by side on a leaf are read at once.
+#[test]
+fn neighbours_are_read_at_once(rt: HostRuntime) -> Result<(), Fail> {
+    let alloc = rt.alloc();
+    let setting = mirror(alloc, None)?;
+    let mut disks = [two_blocks(alloc)?, two_blocks(alloc)?];
+    let end = scrub_neighbours(alloc, &setting, &mut disks)?;
+    let want = ScrubEnd {
+        blocks: 2,
+        copies: 4,
+        repaired: 0,
+        failed: 0,
+        lost: 0,
+    };
+    assert_eq!(rt; end, want);
+    for disk in &disks {
+        assert_eq!(rt; disk.reads(), 1);
+        assert_eq!(rt; disk.writes(), 0);
     }
     Ok(())
 }

@@ -20,6 +20,7 @@ pub mod ReplayedLemmas
 pub mod ReplayedRuns
 pub mod ReplyLemmas
 pub mod ShapeLemmas
+pub mod SoFarLemmas
 pub mod SpelledRounds
 pub mod TextBack
 pub mod TextBytes

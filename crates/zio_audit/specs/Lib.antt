@@ -13,6 +13,7 @@ pub mod ReplayIndex
 pub mod ReplayLaws
 pub mod Replays
 pub mod Seen
+pub mod SoFar
 pub mod Texts
 pub mod Verdicts
 pub mod Worked

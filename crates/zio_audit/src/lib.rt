@@ -9,11 +9,11 @@
 //! `Journals` reads what a report spells of its rounds, one round after another, and keeps nothing of it. `Replayed`
 //! answers the asks of all rounds by these entries, and holds those of one round; with `AsSpelled` a runner of
 //! `zio_plain` runs the rounds of a script so, and is stopped where these aren't a round's choices: `specs/Replays`.
-//! `specs/Ended` says what such a run comes to. `unmatched_round` tells whether a spelled order of completions is one
-//! that the run may have. A `PlainMatcher` is a sink that compares what it is given with a report's lines that are
-//! none of the journal, and `PutIn` compares a report with its own lines among which the texts of journals are put, as
-//! `specs/Putting` has it: these two tell whether a report is the text of a run. `are_lawful` judges recorded entries
-//! one after another.
+//! `specs/Ended` says what such a run comes to. `SpelledSoFar` keeps its journal, without the entries of earlier
+//! rounds: `specs/SoFar`. `unmatched_round` tells whether a spelled order of completions is one that the run may have.
+//! A `PlainMatcher` is a sink that compares what it is given with a report's lines that are none of the journal, and
+//! `PutIn` compares a report with its own lines among which the texts of journals are put, as `specs/Putting` has it:
+//! these two tell whether a report is the text of a run. `are_lawful` judges recorded entries one after another.
 #![tactic(auto)]
 
 mod auditing;
@@ -34,6 +34,7 @@ mod replayed;
 mod run;
 mod seen;
 mod shapes;
+mod so_far;
 mod taking;
 mod verdict;
 

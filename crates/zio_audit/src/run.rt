@@ -30,14 +30,16 @@ use crate::replay::{AsSpelled, replay_over};
 use crate::replayed::{Replayed, Spelled};
 use crate::seen::Seen;
 use crate::shapes::line_before;
+use crate::so_far::SpelledSoFar;
 use std::alloc::Global;
+use zio_course::Records;
 use zio_disks::Setting;
 use zio_outside::MemDisk;
 use zio_plain::{EntriesFault, Plain};
 use zio_report::{RunFault, Show};
 use zio_script::{Script, accepted_scripts_are_orderly};
 use zio_suspend::run_script;
-use zio_types::{Bytes, Journal, List, NoMemory, TopSize};
+use zio_types::{Bytes, List, NoMemory, TopSize};
 
 /// What is to be said of a run whose script is read, and whose report spells a journal: `text` is the script's, and the
 /// disks have the images before the run.
@@ -76,7 +78,7 @@ pub(crate) fn judge_run<K: Spelled>(
     let journals = Journals::of(sizes, report);
     let runner = replay_over::<MemDisk, K>(alloc, setting, disks, sizes, journals.again())?;
     let mut plain = PlainMatcher::new(report);
-    let mut journal = Journal::new(alloc);
+    let mut journal: SpelledSoFar<K> = SpelledSoFar::new(alloc);
     let show = Show::Report {
         journal: false,
         bytes: shows_bytes(report),
@@ -94,7 +96,7 @@ pub(crate) fn judge_run<K: Spelled>(
             alloc, script, report, journals, &plain, &journal, &disks, after,
         ),
         Err(EntriesFault::Strange) => Ok(Some(Seen::Places {
-            round: round_after(journal.rounds),
+            round: round_after(journal.rounds()),
         })),
         Err(EntriesFault::Memory) => Err(NoMemory),
     }
@@ -115,15 +117,15 @@ fn run_spelled<K: Spelled>(
     runner: Plain<MemDisk, Replayed<K>, AsSpelled>,
     images: u32,
     plain: &mut PlainMatcher,
-    journal: &mut Journal,
+    journal: &mut SpelledSoFar<K>,
 ) -> Result<Vec<MemDisk>, EntriesFault>
     requires script { (text : Seq ℕ) × IsScriptOf text script.now }
     requires start { IsAtStart script.now runner.setting runner.disks runner.last runner.stopped }
     requires live { runner.chooser.space.live ≡ [] }
     requires images { images ≡ length runner.disks }
-    requires empty { IsEmptyJournal journal.old }
+    requires empty { IsEmptyJournal journal.old.journal }
     ensures ran { IfOk result (λ after. HasReplayed show.now script.now K.journals (map disk_image runner.entry.disks)
-        (map disk_image after.items) plain.old plain.new journal.new) }
+        (map disk_image after.items) plain.old plain.new journal.new.journal) }
     ensures strange { IsErrOf result EntriesFault.Strange → (c : Case) → c.before ≡ map disk_image runner.entry.disks
         → IsReadAs c script.now K.journals
         → ¬ HasLawfulEntries script.now c.before (journal_spelled script.now c.before K.journals) }
@@ -139,30 +141,30 @@ fn run_spelled<K: Spelled>(
 }
 
 // What is to be said of a run to its end, which left this of the matcher of its text, this journal and these disks.
-fn judge_ended(
+fn judge_ended<K: Spelled>(
     alloc: Global,
     script: &Script,
     report: &[u8],
     journals: Journals<'_>,
     plain: &PlainMatcher,
-    journal: &Journal,
+    journal: &SpelledSoFar<K>,
     disks: &[MemDisk],
     after: &[Bytes],
 ) -> Result<Option<Seen>, NoMemory>
     requires rising { AreRising (requests_of script.now.items) }
-    ensures verdict { IfOk result (λ seen. IsJudged script.now report.now journals.entry plain.now journal.now
+    ensures verdict { IfOk result (λ seen. IsJudged script.now report.now journals.entry plain.now journal.now.journal
         (map disk_image disks.now) after.now (verdict_of seen)) }
-    ensures place { IfOk result (λ seen. IfSome seen (IsSeenOf script.now report.now journals.entry plain.now journal.now
-        (map disk_image disks.now) after.now)) }
+    ensures place { IfOk result (λ seen. IfSome seen (IsSeenOf script.now report.now journals.entry plain.now
+        journal.now.journal (map disk_image disks.now) after.now)) }
 {
-    match round_behind(alloc, journals.again(), journal.rounds)? {
+    match round_behind(alloc, journals.again(), journal.rounds())? {
         Some(round) => return Ok(Some(Seen::Places { round })),
         None => {}
     }
     match unmatched_round(
         alloc,
         script.items.as_slice(),
-        journal.completions.as_slice(),
+        journal.completions(),
         journals.again(),
     )? {
         Some(round) => return Ok(Some(Seen::Completions { round })),

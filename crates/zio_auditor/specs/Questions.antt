@@ -1,7 +1,7 @@
 -- The words that the program answers itself.
 use Rattle.std.specs.Prelude.{ℕ, List, [], ◌∷◌, ◌||◌, Option, Some, None, codes, bytes_eq, if◌then◌else◌}
-use Rattle.zio_auditor.specs.declared.about.Question.{Question}
-use Rattle.zio_auditor.specs.declared.about.Question.TheVariants.{Help, Version}
+use Rattle.zio_program.specs.declared.about.Question.{Question}
+use Rattle.zio_program.specs.declared.about.Question.TheVariants.{Help, Version}
 
 abbrev pub asked_by_word : List ℕ → Option Question
 asked_by_word word =

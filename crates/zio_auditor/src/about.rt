@@ -2,14 +2,19 @@
 ghost use Rattle.std.specs.Prelude.{◌≡◌, map, string_bytes};
 ghost use Rattle.zio_auditor.specs.Questions.{asked_by, asked_by_word};
 
-use clap::{Arg, ArgAction, Command};
-use std::alloc::{AllocError, Global};
+use zio_program::{About, Question};
 
-const ABOUT: &str = "Tells whether a run of a script of block requests is what the script means.";
+/// Its name, and what `--help` tells.
+pub const ABOUT: About<'static> = About {
+    name: "zio_auditor",
+    purpose: "Tells whether a run of a script of block requests is what the script means.",
+    usage: USAGE,
+    rest: REST,
+};
 
 pub const USAGE: &str = "zio_auditor SCRIPT REPORT BEFORE.. AFTER..";
 
-const AFTER: &str = "\
+const REST: &str = "\
 SCRIPT is the script of a run, REPORT what the run printed with --journal, by
 zio_serial or by whatever else ran it. BEFORE.. are the images before the run,
 1 to 16, leaf 0 first, and AFTER.. as many after it, in the same order. A script
@@ -44,13 +49,6 @@ line, round or byte the why was first seen. The whys of status 10:
   5  the report isn't the text of the run, neither with --data nor without
   6  the images AFTER aren't those that the run leaves";
 
-/// What a single word asks of the program itself.
-#[derive(Clone, Copy)]
-pub enum Question {
-    Help,
-    Version,
-}
-
 /// The question that these words are, none where they are for the top call.
 pub fn asked(words: &[String]) -> Option<Question>
     ensures { result ≡ asked_by (map string_bytes words.now) }
@@ -71,33 +69,4 @@ fn asked_by_word(word: &str) -> Option<Question>
     } else {
         None
     }
-}
-
-/// The answer, which ends with a newline.
-pub fn text_of(alloc: Global, question: Question) -> Result<String, AllocError> {
-    let mut command = command(alloc)?;
-    match question {
-        Question::Help => command.render_help(),
-        Question::Version => command.render_version(),
-    }
-}
-
-fn command<'a>(alloc: Global) -> Result<Command<'a>, AllocError> {
-    let help = Arg::new(alloc, "help")
-        .long("help")
-        .action(ArgAction::Help)
-        .help("Print this text");
-    let version = Arg::new(alloc, "version")
-        .long("version")
-        .action(ArgAction::Version)
-        .help("Print the version");
-    Command::new(alloc, "zio_auditor")
-        .version("0.1.0")
-        .about(ABOUT)
-        .override_usage(USAGE)
-        .after_help(AFTER)
-        .disable_help_flag(true)
-        .disable_version_flag(true)
-        .arg(help)?
-        .arg(version)
 }

@@ -8,20 +8,19 @@
 
 mod about;
 mod told;
-mod watched;
 
-use about::{asked, text_of};
+use about::{ABOUT, asked};
 use std::alloc::AllocError;
 use std::env;
 use std::fs::File;
 use std::io::ErrorKind;
 use std::process::ExitCode;
 use told::line_of;
-use watched::Watched;
 use zio_audit::Seen;
 use zio_audit_run::audit_telling;
 use zio_command::{CODE_MEMORY, CODE_SINK};
 use zio_outside::{FileShelf, Sink, StdSink};
+use zio_program::{Watched, text_of};
 
 fn main(rt: HostRuntime) -> ExitCode {
     let _stand_ins = [stand_in(&rt), stand_in(&rt), stand_in(&rt)];
@@ -50,7 +49,7 @@ fn words(rt: &HostRuntime) -> Result<Vec<String>, AllocError> {
 
 fn answer(rt: &HostRuntime, words: &[String]) -> u8 {
     match asked(words) {
-        Some(question) => match text_of(rt.alloc(), question) {
+        Some(question) => match text_of(rt.alloc(), ABOUT, question) {
             Ok(text) => tell(rt, text.as_str()),
             Err(_) => CODE_MEMORY,
         },

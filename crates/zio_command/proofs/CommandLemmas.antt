@@ -1,5 +1,5 @@
 -- What follows from how the call of a command ends.
-use Rattle.std.proofs.Common.{◌≡◌, ◌<◌, ◌≤◌, ◌^◌, ℕ, List, [], ◌∷◌, ◌⊎◌, inl, inr, true, false, length, map, refl, sym, subst, arith}
+use Rattle.std.proofs.Common.{◌≡◌, ◌<◌, ◌≤◌, ◌^◌, ℕ, List, [], ◌∷◌, ◌⊎◌, inl, inr, Bool, true, false, length, map, refl, sym, subst, arith}
 use Rattle.std.specs.List.{AllByRecursion}
 use Rattle.zio_types.specs.declared.journal.Journal.{Journal}
 use Rattle.zio_outside.specs.Outside.{Rose}
@@ -192,10 +192,11 @@ command_never (Load seed n names) old_source new_source old_sink new_sink old ne
 
 -- memory was wanting before anything was done; the text of `load` is a script
 pub command_wanting : ((seed n : ℕ) → seed < 2 ^ 32 → 1 ≤ n → n ≤ BLOCKS_MAX → (script : Script) × IsScriptOf (script_text seed n) script)
-    → (words : List (List ℕ)) (command : Command) (source : SourceSeen) (sink : SinkSeen) (shelf : ShelfSeen) (journal : Journal) → IsCommandOf true words command
+    → (serial : Bool) (words : List (List ℕ)) (command : Command) (source : SourceSeen) (sink : SinkSeen) (shelf : ShelfSeen) (journal : Journal)
+    → IsCommandOf serial words command
     → CommandEnds command source source sink sink shelf shelf journal journal 8
-command_wanting scripts words (Run workers picks show names) source sink shelf journal is = inr (Wanting refl (wanting sink shelf journal))
-command_wanting scripts words (Gen seed n) source sink shelf journal is = record {
+command_wanting scripts serial words (Run workers picks show names) source sink shelf journal is = inr (Wanting refl (wanting sink shelf journal))
+command_wanting scripts serial words (Gen seed n) source sink shelf journal is = record {
   codes_are = inr (inr refl);
   written = λ e. absurd (omega arith);
   steady = λ e. refl;
@@ -203,7 +204,7 @@ command_wanting scripts words (Gen seed n) source sink shelf journal is = record
   front = λ e. absurd (omega arith);
   nothing = λ e x. (λ h. h, λ h. h);
 }
-command_wanting scripts words (Load seed n names) source sink shelf journal is =
+command_wanting scripts serial words (Load seed n names) source sink shelf journal is =
     let size = is.1.size in
     let script = scripts seed n size.seed_fits size.blocks.low size.blocks.high in
     (script.0, script.1, WantingFirst refl (wanting sink shelf journal))

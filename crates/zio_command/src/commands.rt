@@ -24,7 +24,7 @@ use zio_types::{Journal, Status, Text};
 /// Does what a command asks for, and ends with its code. A script is run by an engine that `engines` makes.
 pub fn run_command<E: Engines, S: Source, O: Sink, H: Shelf>(
     alloc: Global,
-    engines: &E,
+    engines: E,
     command: Command,
     script: &mut S,
     shelf: &mut H,
@@ -33,6 +33,7 @@ pub fn run_command<E: Engines, S: Source, O: Sink, H: Shelf>(
 ) -> Status
 where
     H::Disk: Drop,
+    requires can { E.Can }
     requires command { IsLawfulCommand command }
     requires empty { IsEmptyJournal journal.old }
     requires home { H.tells shelf.old → (name : Seq ℕ) → ¬ H.out shelf.old name }
@@ -57,12 +58,13 @@ where
     ensures unfetched { (result.code ≡ 2) ⊎ (result.code ≡ 5) → shelf.new ≡ shelf.old }
     ensures generated { runs command ≡ false → (shelf.new ≡ shelf.old) × (journal.new ≡ journal.old) }
 {
+    let engines = engines.asked_by(&command);
     match command {
         Command::Run { show, images, .. } => run_source(
             alloc,
             script,
             &show,
-            engines,
+            &engines,
             images.as_slice(),
             shelf,
             out,
@@ -73,7 +75,7 @@ where
             alloc,
             seed,
             n,
-            engines,
+            &engines,
             images.as_slice(),
             shelf,
             out,
@@ -95,6 +97,7 @@ fn run_source<E: Engines, S: Source, O: Sink, H: Shelf>(
 ) -> Status
 where
     H::Disk: Drop,
+    requires can { E.Can }
     requires names { AreImages names.now }
     requires empty { IsEmptyJournal journal.old }
     requires home { H.tells shelf.old → (name : Seq ℕ) → ¬ H.out shelf.old name }

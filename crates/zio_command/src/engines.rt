@@ -8,6 +8,7 @@ ghost use Rattle.zio_command.specs.Grounds.{CameOutOver, IsSettingOf};
 ghost use Rattle.zio_command.specs.Seen.{sink_by};
 
 use crate::outcome::RunOutcome;
+use crate::words::Command;
 use std::alloc::Global;
 use zio_disks::Setting;
 use zio_outside::{Disk, Sink};
@@ -16,7 +17,13 @@ use zio_script::Script;
 use zio_types::{Journal, List, Top};
 
 /// Makes an engine over disks, and runs a script by it. It holds what the engine needs beside.
-pub trait Engines {
+pub trait Engines: Drop {
+    /// What an engine's threads need of the types that it stands on.
+    ghost Can: { Type 0 };
+
+    /// Makes them as the command asks.
+    fn asked_by(self, command: &Command) -> Self;
+
     /// Runs the script over disks that bear its tops, by an engine that has run nothing yet, and hands the disks back.
     /// The tops are those of the setting.
     fn run<O: Sink, D: Disk + Drop>(
@@ -30,6 +37,7 @@ pub trait Engines {
         out: &mut O,
         journal: &mut Journal,
     ) -> (RunOutcome, Vec<D>)
+        requires can { Can }
         requires script { (text : Seq ℕ) × IsScriptOf text script.now }
         requires setting { IsSettingOf script.now (map D.bytes disks.items) setting }
         requires tops { tops ≡ setting.tops }

@@ -47,6 +47,7 @@ pub(crate) fn run_generated<E: Engines, O: Sink, H: Shelf>(
 ) -> Status
 where
     H::Disk: Drop,
+    requires can { E.Can }
     requires size { IsWithin 1 BLOCKS_MAX n }
     requires names { AreImages names.now }
     requires empty { IsEmptyJournal journal.old }

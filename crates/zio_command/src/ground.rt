@@ -32,6 +32,7 @@ pub(crate) fn run_on_disks<E: Engines, O: Sink, D: Disk + Drop>(
     out: &mut O,
     journal: &mut Journal,
 ) -> (RunOutcome, Vec<D>)
+    requires can { E.Can }
     requires script { (text : Seq ℕ) × IsScriptOf text script.now }
     requires measured { AllByRecursion HasLawfulSize (map D.bytes disks.items) }
     requires few { length disks.items ≤ 16 }

@@ -35,6 +35,7 @@ pub(crate) fn run_text<E: Engines, O: Sink, H: Shelf>(
 ) -> Status
 where
     H::Disk: Drop,
+    requires can { E.Can }
     requires names { AreImages names.now }
     requires empty { IsEmptyJournal journal.old }
     requires home { H.tells shelf.old → (name : Seq ℕ) → ¬ H.out shelf.old name }
@@ -72,6 +73,7 @@ fn run_script_on<E: Engines, O: Sink, H: Shelf>(
 ) -> Status
 where
     H::Disk: Drop,
+    requires can { E.Can }
     requires script { (text : Seq ℕ) × IsScriptOf text script.now }
     requires names { AreImages names.now }
     requires empty { IsEmptyJournal journal.old }
@@ -112,6 +114,7 @@ fn run_on_shelf<E: Engines, O: Sink, H: Shelf>(
 ) -> RunOutcome
 where
     H::Disk: Drop,
+    requires can { E.Can }
     requires script { (text : Seq ℕ) × IsScriptOf text script.now }
     requires names { AreImages names.now }
     requires empty { IsEmptyJournal journal.old }

@@ -1,6 +1,7 @@
 //! The round of a batch.
 
-ghost use Rattle.std.specs.Prelude.{◌≡◌, ◌+◌, ◌<◌, ◌≤◌, ◌^◌, ℕ, List, IfErr, IfOk, IfSome, IsErrOf, OnOk, false, map, reverse};
+ghost use Rattle.std.specs.Prelude.{◌≡◌, ◌+◌, ◌<◌, ◌≤◌, ◌^◌, ℕ, List, IfErr, IfOk, IfSome, IsErrOf, OnOk, false, length, map, reverse};
+ghost use Rattle.zio_types.specs.Choices.{Choice};
 ghost use Rattle.zio_script.specs.Accepted.{AreRising};
 ghost use Rattle.zio_script.specs.Requests.{requests_of};
 ghost use Rattle.zio_cksum.specs.Images.{Images};
@@ -19,13 +20,14 @@ use crate::admission::Admission;
 use crate::answered::answered_ends;
 use crate::bound::Bound;
 use crate::forest::trees_to_run;
+use crate::records::Records;
 use crate::round::{WholeRound, whole_round};
 use crate::runner::{Job, Runner, Stop};
 use crate::told::tell_batch;
 use std::alloc::Global;
 use zio_report::ReportLine;
 use zio_script::{Failmode, Item};
-use zio_types::{Journal, List};
+use zio_types::List;
 
 /// What the round of a batch leaves beside the journal and the bound names.
 #[derive(Debug, Drop)]
@@ -42,7 +44,7 @@ pub struct BatchEnd<T> {
 /// The lines can be shown: the bytes of reads are whole sectors. The round is in the journal, with the ends of what
 /// admission answered, before anything is told of it. Where it is cut short the journal is as it was or has the whole
 /// round.
-pub fn run_batch<R: Runner>(
+pub fn run_batch<R: Runner, J: Records>(
     alloc: Global,
     runner: &mut R,
     batch: &[Item],
@@ -51,31 +53,33 @@ pub fn run_batch<R: Runner>(
     failmode: Failmode,
     admission: &Admission,
     bound: &mut Bound,
-    journal: &mut Journal,
+    journal: &mut J,
 ) -> Result<BatchEnd<R::Tree>, Stop>
     requires rising { AreRising (requests_of batch.now) }
     requires ready { AreReady number bound.old
         (running admission.now.slots.entries admission.now.rules.items batch.now) }
     requires fits { (name : List ℕ) → IfSome (named_in bound.old name) R.fits }
-    requires rounds { journal.old.rounds + 1 < 2 ^ 32 }
+    requires rounds { (J.seen journal.old).rounds + 1 < 2 ^ 32 }
     requires runs { (R.standing runner.old).stopped ≡ false }
-    requires next { (R.standing runner.old).last ≤ journal.old.rounds }
+    requires next { (R.standing runner.old).last ≤ (J.seen journal.old).rounds }
     requires trees { AreRunnable (R.standing runner.old)
         (pending_trees (names_of bound.old) number
         (trees_of (running admission.now.slots.entries admission.now.rules.items batch.now))) }
     requires can { R.Can runner.old }
-    requires chosen { AreOfRounds R.chosen journal.old.rounds journal.old.places }
+    requires chosen { AreOfRounds R.chosen (J.seen journal.old).rounds (J.seen journal.old).places }
+    requires may { (round : ℕ) (entries : List Choice) → R.chosen round entries → J.may round entries }
     ensures ran { IfOk result (λ ran. (end : SeenEnd)
         × IsBatchRun (error_in admission.now.slots.entries admission.now.rules.items)
-        (requests_of batch.now) bound.old bound.new journal.old journal.new end ran.lines (map R.pending ran.left)
-        × IsRoundEnd (R.standing runner.old) (journal.old.rounds + 1)
+        (requests_of batch.now) bound.old bound.new (J.seen journal.old) (J.seen journal.new) end ran.lines
+        (map R.pending ran.left)
+        × IsRoundEnd (R.standing runner.old) ((J.seen journal.old).rounds + 1)
         (pending_trees (names_of bound.old) number
         (trees_of (running admission.now.slots.entries admission.now.rules.items batch.now))) end
-        × StandsAfter (R.standing runner.old) (R.standing runner.new) (journal.old.rounds + 1)
+        × StandsAfter (R.standing runner.old) (R.standing runner.new) ((J.seen journal.old).rounds + 1)
         (pending_trees (names_of bound.old) number
         (trees_of (running admission.now.slots.entries admission.now.rules.items batch.now))) end
         × ((before : Images) → R.tells runner.old before → (after : Images) × R.tells runner.new after
-        × IsRound (terms_at (R.standing runner.old) failmode (journal.old.rounds + 1) point)
+        × IsRound (terms_at (R.standing runner.old) failmode ((J.seen journal.old).rounds + 1) point)
         (pending_trees (names_of bound.old) number
         (trees_of (running admission.now.slots.entries admission.now.rules.items batch.now))) before after end)) }
     ensures shown { IfOk result (λ ran. AreWhole ran.lines) }
@@ -84,24 +88,25 @@ pub fn run_batch<R: Runner>(
         × R.tells runner.new after
         × IsCutShort (R.standing runner.old) (R.standing runner.new)
         (stopping_of (R.standing runner.new) (R.stops runner.new)) stop
-        (terms_at (R.standing runner.old) failmode (journal.old.rounds + 1) point)
+        (terms_at (R.standing runner.old) failmode ((J.seen journal.old).rounds + 1) point)
         (pending_trees (names_of bound.old) number
         (trees_of (running admission.now.slots.entries admission.now.rules.items batch.now)))
-        (reverse (answered_in (error_in admission.now.slots.entries admission.now.rules.items) (journal.old.rounds + 1)
-        (requests_of batch.now)))
-        journal.old journal.new before after) }
+        (reverse (answered_in (error_in admission.now.slots.entries admission.now.rules.items)
+        ((J.seen journal.old).rounds + 1) (requests_of batch.now)))
+        (J.seen journal.old) (J.seen journal.new) before after) }
     ensures tops { (R.standing runner.new).tops ≡ (R.standing runner.old).tops }
     ensures rows { (R.standing runner.new).rows ≡ (R.standing runner.old).rows }
-    ensures kept { IsErrOf result Stop.Device → journal.new ≡ journal.old }
+    ensures kept { IsErrOf result Stop.Device → (J.seen journal.new) ≡ (J.seen journal.old) }
     ensures device { IsErrOf result Stop.Device
         → AnyRose (R.standing runner.old).faults (R.standing runner.new).faults }
     ensures calm { IsErrOf result Stop.Memory → (R.standing runner.new).faults ≡ (R.standing runner.old).faults }
     ensures can { R.Can runner.new }
-    ensures chosen { AreOfRounds R.chosen journal.new.rounds journal.new.places }
+    ensures gone { OnOk result (J.gone journal.new ≤ length (J.seen journal.old).places) }
+    ensures chosen { AreOfRounds R.chosen (J.seen journal.new).rounds (J.seen journal.new).places }
     ensures same { R.same runner.old runner.new }
 {
     let trees = trees_to_run(alloc, runner, batch, number, bound, admission)?;
-    let round = journal.rounds + 1;
+    let round = journal.rounds() + 1;
     let answered = answered_ends(alloc, batch, admission, round)?;
     let job = Job {
         round,

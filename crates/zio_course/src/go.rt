@@ -1,6 +1,7 @@
 //! The line `go` of a script.
 
 ghost use Rattle.std.specs.Prelude.{◌≡◌, ◌∷◌, ◌++◌, ◌+◌, ◌≤◌, ◌||◌, [], ℕ, List, IfErr, IsErrOf, OnOk, map, not};
+ghost use Rattle.zio_types.specs.Choices.{Choice};
 ghost use Rattle.zio_outside.specs.Outside.{Appends, AppendsFront, Rose};
 ghost use Rattle.zio_script.specs.declared.script.Request.{Request};
 ghost use Rattle.zio_script.specs.Requests.{requests_of};
@@ -12,6 +13,7 @@ ghost use Rattle.zio_course.specs.Moves.{HeldWaits, IsGoing, LineCut, LineRan, r
 ghost use Rattle.zio_course.specs.Runners.{AnyRose, stopping_of};
 
 use crate::fold::{Batch, Fold};
+use crate::records::Records;
 use crate::rounds::batch_round;
 use crate::runner::Runner;
 use crate::texts::write_held;
@@ -20,10 +22,10 @@ use std::collections::VecDeque;
 use zio_outside::Sink;
 use zio_report::{RunFault, Show};
 use zio_script::Failmode;
-use zio_types::{Journal, List};
+use zio_types::List;
 
 /// Runs a batch as the next round where nothing is suspended or the run goes on without; else it is held.
-pub fn go_line<'a, R: Runner, O: Sink>(
+pub fn go_line<'a, R: Runner, O: Sink, J: Records>(
     alloc: Global,
     failmode: Failmode,
     show: &Show,
@@ -32,15 +34,16 @@ pub fn go_line<'a, R: Runner, O: Sink>(
     held: &mut VecDeque<Batch<'a>>,
     batch: &Batch<'a>,
     out: &mut O,
-    journal: &mut Journal,
+    journal: &mut J,
 ) -> Result<(), RunFault>
     requires going { (later : List (List Request)) × (spare : ℕ)
-        × IsGoing R.fits (R.standing runner.old) journal.old.rounds (fold_seen R.pending fold.old)
+        × IsGoing R.fits (R.standing runner.old) (J.seen journal.old).rounds (fold_seen R.pending fold.old)
         (batches_seen held.old.items) (requests_of batch.now.lines.now ∷ later) (spare + 1) }
     requires number { 1 ≤ batch.now.number }
     requires waits { HeldWaits failmode (map R.pending fold.old.suspended) (batches_seen held.old.items) }
     requires can { R.Can runner.old }
-    requires chosen { AreOfRounds R.chosen journal.old.rounds journal.old.places }
+    requires chosen { AreOfRounds R.chosen (J.seen journal.old).rounds (J.seen journal.old).places }
+    requires may { (round : ℕ) (entries : List Choice) → R.chosen round entries → J.may round entries }
     ensures ran { OnOk result ((batches : ℕ) → batch.now.number ≡ batches + 1
         → LineRan show.now failmode (R.standing runner.old) (R.standing runner.new) (fold_seen R.pending fold.old)
         (fold_seen R.pending fold.new)
@@ -48,19 +51,19 @@ pub fn go_line<'a, R: Runner, O: Sink>(
         (record { held = batches_seen held.new.items; batch = []; batches = batches + 1 })
         (requests_held (batches_seen held.old.items) ++ requests_of batch.now.lines.now ∷ [])
         (requests_held (batches_seen held.new.items))
-        journal.old journal.new (R.tells runner.old) (R.tells runner.new) (O.holds out.old)
+        (J.seen journal.old) (J.seen journal.new) (R.tells runner.old) (R.tells runner.new) (O.holds out.old)
         (O.holds out.new) go_line_by) }
     ensures cut { IfErr result (λ fault. (batches : ℕ) → batch.now.number ≡ batches + 1
         → LineCut show.now failmode (R.standing runner.old) (fold_seen R.pending fold.old)
         (record { held = batches_seen held.old.items; batch = requests_of batch.now.lines.now; batches = batches })
         (requests_held (batches_seen held.old.items) ++ requests_of batch.now.lines.now ∷ [])
-        journal.old journal.new (R.tells runner.old) (R.tells runner.new)
+        (J.seen journal.old) (J.seen journal.new) (R.tells runner.old) (R.tells runner.new)
         (stopping_of (R.standing runner.new) (R.stops runner.new)) (O.holds out.old)
         (O.holds out.new) go_line_by fault) }
     ensures going { OnOk result ((later : List (List Request)) (spare : ℕ)
-        → IsGoing R.fits (R.standing runner.old) journal.old.rounds (fold_seen R.pending fold.old)
+        → IsGoing R.fits (R.standing runner.old) (J.seen journal.old).rounds (fold_seen R.pending fold.old)
         (batches_seen held.old.items) (requests_of batch.now.lines.now ∷ later) (spare + 1)
-        → IsGoing R.fits (R.standing runner.new) journal.new.rounds (fold_seen R.pending fold.new)
+        → IsGoing R.fits (R.standing runner.new) (J.seen journal.new).rounds (fold_seen R.pending fold.new)
         (batches_seen held.new.items) later spare) }
     ensures waits { OnOk result (HeldWaits failmode (map R.pending fold.new.suspended) (batches_seen held.new.items)) }
     ensures tops { (R.standing runner.new).tops ≡ (R.standing runner.old).tops }
@@ -73,7 +76,7 @@ pub fn go_line<'a, R: Runner, O: Sink>(
     ensures calm { IsErrOf result RunFault.Memory → (R.standing runner.new).faults ≡ (R.standing runner.old).faults }
     ensures sink { IsErrOf result RunFault.Sink → Rose (O.faults out.old) (O.faults out.new) }
     ensures can { R.Can runner.new }
-    ensures chosen { AreOfRounds R.chosen journal.new.rounds journal.new.places }
+    ensures chosen { AreOfRounds R.chosen (J.seen journal.new).rounds (J.seen journal.new).places }
     ensures same { R.same runner.old runner.new }
 {
     if runs_now(&fold.suspended, failmode) {

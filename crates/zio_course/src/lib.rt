@@ -3,11 +3,10 @@
 //! It stands on the script, the definitions of `zio_gang` and the report, and on no engine. Read `Runner` first: it
 //! makes trees of requests and runs rounds of them. A batch is a slice of a script's lines. `Admission` says which of
 //! its trees are answered before its round, `trees_to_run` makes those that run, `tell_batch` tells of each request
-//! after it, and
-//! `enter_round` counts it in the journal: `run_batch` is all of these. `run_suspended` is the round of a `clear`, and
-//! `write_round` writes what a round told. Contracts see a tree as the list of its requests in the order of their
-//! attempts. `specs/Runners` says what a round is to a runner, and `laws` that such rounds are those of a script's
-//! course.
+//! after it, and a `Records` counts it in the journal that it keeps, as a `Journal` does by `enter_round`: `run_batch`
+//! is all of these. `run_suspended` is the round of a `clear`, and `write_round` writes what a round told. Contracts
+//! see a tree as the list of its requests in the order of their attempts. `specs/Runners` says what a round is to a
+//! runner, and `laws` that such rounds are those of a script's course.
 #![tactic(auto)]
 
 mod admission;
@@ -23,6 +22,7 @@ mod go;
 mod held;
 mod laws;
 mod lines;
+mod records;
 mod round;
 mod rounds;
 mod runner;
@@ -49,6 +49,7 @@ pub use laws::{
     an_orderly_batch_is_runnable, bound_places_are_live, parents_wait_for_children,
     suspended_trees_are_runnable, what_was_run_stays_run, whole_trees_are_admitted,
 };
+pub use records::Records;
 pub use round::{WholeRound, whole_round};
 pub use rounds::{batch_round, clear_round};
 pub use runner::{ChildrenBack, Job, RequestEnd, RoundEnd, Runner, Stop};

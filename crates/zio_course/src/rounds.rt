@@ -2,6 +2,7 @@
 
 ghost use Rattle.std.specs.Prelude.{◌≡◌, ◌&&◌, ◌||◌, IfOk, ◌∷◌, ◌++◌, ◌+◌, ◌*◌, ◌<◌, ◌≤◌, ◌^◌, [], ℕ, List, IfErr, IsErrOf, None, OnErr, OnOk, Some, drop, length, map};
 ghost use Rattle.std.specs.List.{AllByRecursion};
+ghost use Rattle.zio_types.specs.Choices.{Choice};
 ghost use Rattle.zio_outside.specs.Outside.{Appends, AppendsFront, Rose};
 ghost use Rattle.zio_script.specs.declared.script.Request.{Request};
 ghost use Rattle.zio_script.specs.declared.script.Script.{Script};
@@ -23,6 +24,7 @@ ghost use Rattle.zio_course.specs.SoFar.{Ahead, IsCourseAt, IsCut, IsCutText};
 use crate::admission::Admission;
 use crate::batch::{BatchEnd, run_batch};
 use crate::fold::{Batch, Fold, requests_in};
+use crate::records::Records;
 use crate::runner::{Runner, Stop};
 use crate::suspended::run_suspended;
 use crate::texts::write_round;
@@ -31,12 +33,12 @@ use std::mem;
 use zio_outside::Sink;
 use zio_report::{ReportLine, RoundHead, RunFault, Show};
 use zio_script::{Failmode, Request};
-use zio_types::{Journal, List};
+use zio_types::List;
 
 /// Runs a batch as the next round, beside what is suspended, and writes its text.
 ///
 /// The trees that are left wait behind those that are suspended.
-pub fn batch_round<'a, R: Runner, O: Sink>(
+pub fn batch_round<'a, R: Runner, O: Sink, J: Records>(
     alloc: Global,
     failmode: Failmode,
     show: &Show,
@@ -44,37 +46,39 @@ pub fn batch_round<'a, R: Runner, O: Sink>(
     fold: &mut Fold<'a, R::Tree>,
     batch: &Batch<'a>,
     out: &mut O,
-    journal: &mut Journal,
+    journal: &mut J,
 ) -> Result<(), RunFault>
-    requires steady { IsSteady R.fits (R.standing runner.old) journal.old.rounds (fold_seen R.pending fold.old) }
+    requires steady { IsSteady R.fits (R.standing runner.old) (J.seen journal.old).rounds
+        (fold_seen R.pending fold.old) }
     requires rising { AreRising (map (λ r. r.now) fold.old.unfinished.items ++ requests_of batch.now.lines.now) }
     requires orderly { IsOrderlyBatch (rows_tell_apart (R.standing runner.old).rows) (requests_of batch.now.lines.now) }
     requires number { 1 ≤ batch.now.number }
-    requires rounds { journal.old.rounds + 1 < 2 ^ 32 }
+    requires rounds { (J.seen journal.old).rounds + 1 < 2 ^ 32 }
     requires few { fold.old.tally.good + fold.old.tally.bad + length (requests_of batch.now.lines.now) < 2 ^ 32 }
     requires can { R.Can runner.old }
-    requires chosen { AreOfRounds R.chosen journal.old.rounds journal.old.places }
+    requires chosen { AreOfRounds R.chosen (J.seen journal.old).rounds (J.seen journal.old).places }
+    requires may { (round : ℕ) (entries : List Choice) → R.chosen round entries → J.may round entries }
     ensures ran { OnOk result ((n : RunSize) (script : Script) (before images : Images) (ahead : Ahead)
         (later : List (List Request)) (printed : List ℕ) (rest : Plan → State → Course) →
         script.failmode ≡ failmode
         → AllByRecursion (IsOrderlyBatch (rows_tell_apart (R.standing runner.old).rows)) later
         → IsCourseAt show.now n script before (R.standing runner.old) (fold_seen R.pending fold.old) ahead
-        (requests_of batch.now.lines.now ∷ later) journal.old images printed
+        (requests_of batch.now.lines.now ∷ later) (J.seen journal.old) images printed
         (λ plan st. then_course (run_batch_by plan (batch_seen batch.now) st) (rest plan))
         → R.tells runner.old images → (after : Images) × (more : List ℕ)
         × IsCourseAt show.now n script before (R.standing runner.new)
-        (fold_seen R.pending fold.new) ahead later journal.new after (printed ++ more) rest
+        (fold_seen R.pending fold.new) ahead later (J.seen journal.new) after (printed ++ more) rest
         × R.tells runner.new after × Appends (O.holds out.old) (O.holds out.new) more) }
     ensures cut { IfErr result (λ fault. (n : RunSize) (script : Script) (before images : Images) (ahead : Ahead)
         (later : List (List Request)) (printed : List ℕ) (rest : Plan → State → Course) →
         script.failmode ≡ failmode
         → AllByRecursion (IsOrderlyBatch (rows_tell_apart (R.standing runner.old).rows)) later
         → IsCourseAt show.now n script before (R.standing runner.old) (fold_seen R.pending fold.old) ahead
-        (requests_of batch.now.lines.now ∷ later) journal.old images printed
+        (requests_of batch.now.lines.now ∷ later) (J.seen journal.old) images printed
         (λ plan st. then_course (run_batch_by plan (batch_seen batch.now) st) (rest plan))
         → R.tells runner.old images → (after : Images) × (text : List ℕ)
         × IsCut show.now n script before (R.standing runner.old).tops
-        (stopping_of (R.standing runner.new) (R.stops runner.new)) fault journal.new after text
+        (stopping_of (R.standing runner.new) (R.stops runner.new)) fault (J.seen journal.new) after text
         × R.tells runner.new after × IsCutText fault (O.holds out.old) (O.holds out.new) printed text) }
     ensures waits { OnOk result ((lines : List ReportLine)
         × (map (λ r. r.now) fold.new.unfinished.items ≡ map (λ r. r.now) fold.old.unfinished.items
@@ -83,9 +87,9 @@ pub fn batch_round<'a, R: Runner, O: Sink>(
         ≡ fold.old.tally.good + fold.old.tally.bad + length fold.old.unfinished.items + length
         (requests_of batch.now.lines.now)) }
     ensures point { fold.new.point ≡ fold.old.point }
-    ensures steady { OnOk result (IsSteady R.fits (R.standing runner.new) journal.new.rounds
+    ensures steady { OnOk result (IsSteady R.fits (R.standing runner.new) (J.seen journal.new).rounds
         (fold_seen R.pending fold.new)) }
-    ensures counted { OnOk result (journal.new.rounds ≡ journal.old.rounds + 1) }
+    ensures counted { OnOk result ((J.seen journal.new).rounds ≡ (J.seen journal.old).rounds + 1) }
     ensures tops { (R.standing runner.new).tops ≡ (R.standing runner.old).tops }
     ensures rows { (R.standing runner.new).rows ≡ (R.standing runner.old).rows }
     ensures faults { OnOk result ((R.standing runner.new).faults ≡ (R.standing runner.old).faults) }
@@ -95,12 +99,12 @@ pub fn batch_round<'a, R: Runner, O: Sink>(
     ensures calm { IsErrOf result RunFault.Memory → (R.standing runner.new).faults ≡ (R.standing runner.old).faults }
     ensures sink { IsErrOf result RunFault.Sink → Rose (O.faults out.old) (O.faults out.new) }
     ensures can { R.Can runner.new }
-    ensures chosen { AreOfRounds R.chosen journal.new.rounds journal.new.places }
+    ensures chosen { AreOfRounds R.chosen (J.seen journal.new).rounds (J.seen journal.new).places }
     ensures same { R.same runner.old runner.new }
 {
     let requests = batch_requests(alloc, batch)?;
     let admission = admit(alloc, fold, batch)?;
-    let (places, completions) = (journal.places.len(), journal.completions.len());
+    let (places, completions) = (journal.entries(), journal.completions().len());
     let end = run_batch(
         alloc,
         runner,
@@ -113,7 +117,7 @@ pub fn batch_round<'a, R: Runner, O: Sink>(
         journal,
     )?;
     let head = RoundHead {
-        round: journal.rounds,
+        round: journal.rounds(),
         batch: Some(batch.number),
         point: fold.point,
     };
@@ -133,41 +137,43 @@ pub fn batch_round<'a, R: Runner, O: Sink>(
 }
 
 /// Runs the trees that are suspended as the next round, and writes its text.
-pub fn clear_round<'a, R: Runner, O: Sink>(
+pub fn clear_round<'a, R: Runner, O: Sink, J: Records>(
     alloc: Global,
     failmode: Failmode,
     show: &Show,
     runner: &mut R,
     fold: &mut Fold<'a, R::Tree>,
     out: &mut O,
-    journal: &mut Journal,
+    journal: &mut J,
 ) -> Result<(), RunFault>
-    requires steady { IsSteady R.fits (R.standing runner.old) journal.old.rounds (fold_seen R.pending fold.old) }
-    requires rounds { journal.old.rounds + 1 < 2 ^ 32 }
+    requires steady { IsSteady R.fits (R.standing runner.old) (J.seen journal.old).rounds
+        (fold_seen R.pending fold.old) }
+    requires rounds { (J.seen journal.old).rounds + 1 < 2 ^ 32 }
     requires few { fold.old.tally.good + fold.old.tally.bad + length fold.old.unfinished.items < 2 ^ 32 }
     requires can { R.Can runner.old }
-    requires chosen { AreOfRounds R.chosen journal.old.rounds journal.old.places }
+    requires chosen { AreOfRounds R.chosen (J.seen journal.old).rounds (J.seen journal.old).places }
+    requires may { (round : ℕ) (entries : List Choice) → R.chosen round entries → J.may round entries }
     ensures ran { OnOk result ((n : RunSize) (script : Script) (before images : Images) (ahead : Ahead)
         (later : List (List Request)) (printed : List ℕ) (rest : Plan → State → Course) →
         script.failmode ≡ failmode
         → AllByRecursion (IsOrderlyBatch (rows_tell_apart (R.standing runner.old).rows)) later
         → IsCourseAt show.now n script before (R.standing runner.old)
-        (fold_seen R.pending fold.old) ahead later journal.old images printed
+        (fold_seen R.pending fold.old) ahead later (J.seen journal.old) images printed
         (λ plan st. then_course (run_suspended_by plan st) (rest plan))
         → R.tells runner.old images → (after : Images) × (more : List ℕ)
         × IsCourseAt show.now n script before (R.standing runner.new)
-        (fold_seen R.pending fold.new) ahead later journal.new after (printed ++ more) rest
+        (fold_seen R.pending fold.new) ahead later (J.seen journal.new) after (printed ++ more) rest
         × R.tells runner.new after × Appends (O.holds out.old) (O.holds out.new) more) }
     ensures cut { IfErr result (λ fault. (n : RunSize) (script : Script) (before images : Images) (ahead : Ahead)
         (later : List (List Request)) (printed : List ℕ) (rest : Plan → State → Course) →
         script.failmode ≡ failmode
         → AllByRecursion (IsOrderlyBatch (rows_tell_apart (R.standing runner.old).rows)) later
         → IsCourseAt show.now n script before (R.standing runner.old)
-        (fold_seen R.pending fold.old) ahead later journal.old images printed
+        (fold_seen R.pending fold.old) ahead later (J.seen journal.old) images printed
         (λ plan st. then_course (run_suspended_by plan st) (rest plan))
         → R.tells runner.old images → (after : Images) × (text : List ℕ)
         × IsCut show.now n script before (R.standing runner.old).tops
-        (stopping_of (R.standing runner.new) (R.stops runner.new)) fault journal.new after text
+        (stopping_of (R.standing runner.new) (R.stops runner.new)) fault (J.seen journal.new) after text
         × R.tells runner.new after × IsCutText fault (O.holds out.old) (O.holds out.new) printed text) }
     ensures waits { OnOk result ((lines : List ReportLine)
         × (map (λ r. r.now) fold.new.unfinished.items
@@ -175,9 +181,9 @@ pub fn clear_round<'a, R: Runner, O: Sink>(
     ensures few { OnOk result (fold.new.tally.good + fold.new.tally.bad + length fold.new.unfinished.items
         ≡ fold.old.tally.good + fold.old.tally.bad + length fold.old.unfinished.items) }
     ensures point { fold.new.point ≡ fold.old.point }
-    ensures steady { OnOk result (IsSteady R.fits (R.standing runner.new) journal.new.rounds
+    ensures steady { OnOk result (IsSteady R.fits (R.standing runner.new) (J.seen journal.new).rounds
         (fold_seen R.pending fold.new)) }
-    ensures counted { OnOk result (journal.new.rounds ≡ journal.old.rounds + 1) }
+    ensures counted { OnOk result ((J.seen journal.new).rounds ≡ (J.seen journal.old).rounds + 1) }
     ensures tops { (R.standing runner.new).tops ≡ (R.standing runner.old).tops }
     ensures rows { (R.standing runner.new).rows ≡ (R.standing runner.old).rows }
     ensures faults { OnOk result ((R.standing runner.new).faults ≡ (R.standing runner.old).faults) }
@@ -187,13 +193,13 @@ pub fn clear_round<'a, R: Runner, O: Sink>(
     ensures calm { IsErrOf result RunFault.Memory → (R.standing runner.new).faults ≡ (R.standing runner.old).faults }
     ensures sink { IsErrOf result RunFault.Sink → Rose (O.faults out.old) (O.faults out.new) }
     ensures can { R.Can runner.new }
-    ensures chosen { AreOfRounds R.chosen journal.new.rounds journal.new.places }
+    ensures chosen { AreOfRounds R.chosen (J.seen journal.new).rounds (J.seen journal.new).places }
     ensures same { R.same runner.old runner.new }
 {
     let requests = mem::replace(&mut fold.unfinished, Vec::new(alloc));
     let trees = mem::replace(&mut fold.suspended, List::new(alloc));
     fold.awaited.clear();
-    let (places, completions) = (journal.places.len(), journal.completions.len());
+    let (places, completions) = (journal.entries(), journal.completions().len());
     let end = run_suspended(
         alloc,
         runner,
@@ -205,7 +211,7 @@ pub fn clear_round<'a, R: Runner, O: Sink>(
         journal,
     )?;
     let head = RoundHead {
-        round: journal.rounds,
+        round: journal.rounds(),
         batch: None,
         point: fold.point,
     };
@@ -226,7 +232,7 @@ pub fn clear_round<'a, R: Runner, O: Sink>(
 
 /// Notes what became of a round's requests, and writes the round's text. Its entries and completions are those of the
 /// journal from these on.
-pub(crate) fn end_round<'a, T: Drop, O: Sink>(
+pub(crate) fn end_round<'a, T: Drop, O: Sink, J: Records>(
     alloc: Global,
     failmode: Failmode,
     show: &Show,
@@ -234,7 +240,7 @@ pub(crate) fn end_round<'a, T: Drop, O: Sink>(
     requests: &[&'a Request],
     end: BatchEnd<T>,
     head: &RoundHead,
-    journal: &Journal,
+    journal: &J,
     places: usize,
     completions: usize,
     out: &mut O,
@@ -243,8 +249,9 @@ pub(crate) fn end_round<'a, T: Drop, O: Sink>(
     requires whole { AreWhole end.lines }
     requires few { fold.old.tally.good + fold.old.tally.bad + length end.lines < 2 ^ 32 }
     requires sums { fold.old.tally.read ≤ fold.old.tally.good * 2 ^ 64 }
-    requires places { places ≤ length journal.now.places }
-    requires completions { completions ≤ length journal.now.completions }
+    requires gone { J.gone journal.now ≤ places }
+    requires places { places ≤ length (J.seen journal.now).places }
+    requires completions { completions ≤ length (J.seen journal.now).completions }
     ensures bound { fold.new.bound ≡ fold.old.bound }
     ensures point { fold.new.point ≡ fold.old.point }
     ensures suspended { OnOk result (fold.new.suspended ≡ fold.old.suspended ++ end.left) }
@@ -259,13 +266,13 @@ pub(crate) fn end_round<'a, T: Drop, O: Sink>(
     ensures panicked { OnOk result (fold.new.panicked ≡ (is_panic failmode && has_items end.left)) }
     ensures ok { OnOk result
         (Appends (O.holds out.old) (O.holds out.new)
-        (round_text show.now head.now end.lines (drop places journal.now.places)
-        (drop completions journal.now.completions))) }
+        (round_text show.now head.now end.lines (drop places (J.seen journal.now).places)
+        (drop completions (J.seen journal.now).completions))) }
     ensures quiet { OnOk result (O.faults out.new ≡ O.faults out.old) }
     ensures front { IsErrOf result RunFault.Sink
         → AppendsFront (O.holds out.old) (O.holds out.new)
-        (round_text show.now head.now end.lines (drop places journal.now.places)
-        (drop completions journal.now.completions)) }
+        (round_text show.now head.now end.lines (drop places (J.seen journal.now).places)
+        (drop completions (J.seen journal.now).completions)) }
     ensures rose { IsErrOf result RunFault.Sink → Rose (O.faults out.old) (O.faults out.new) }
     ensures memory { IsErrOf result RunFault.Memory → out.new ≡ out.old }
     ensures device { IsErrOf result RunFault.Device → ⊥ }
@@ -277,8 +284,8 @@ pub(crate) fn end_round<'a, T: Drop, O: Sink>(
         show,
         head,
         lines.as_slice(),
-        &journal.places.as_slice()[places..],
-        &journal.completions.as_slice()[completions..],
+        journal.entries_behind(places),
+        &journal.completions()[completions..],
         out,
     )
 }

@@ -1,6 +1,7 @@
 //! The lines of a script in turn.
 
 ghost use Rattle.std.specs.Prelude.{◌≡◌, ◌++◌, ◌+◌, ◌<◌, ◌^◌, [], ℕ, List, IfErr, IsErrOf, OnOk, false, length};
+ghost use Rattle.zio_types.specs.Choices.{Choice};
 ghost use Rattle.zio_outside.specs.Outside.{Rose};
 ghost use Rattle.zio_script.specs.declared.script.Item.{Item as SeenItem};
 ghost use Rattle.zio_script.specs.Accepted.{batches_from};
@@ -13,16 +14,16 @@ use crate::clear::clear_line;
 use crate::fold::{Batch, Fold};
 use crate::go::go_line;
 use crate::lines::first_line;
+use crate::records::Records;
 use crate::runner::Runner;
 use std::alloc::Global;
 use std::collections::VecDeque;
 use zio_outside::Sink;
 use zio_report::{RunFault, Show};
 use zio_script::{Failmode, Item};
-use zio_types::Journal;
 
 /// Runs the lines of a script in turn, up to the last or to a panic. What is held at the end is left in `held`.
-pub fn run_lines<'a, R: Runner, O: Sink>(
+pub fn run_lines<'a, R: Runner, O: Sink, J: Records>(
     alloc: Global,
     failmode: Failmode,
     show: &Show,
@@ -31,24 +32,26 @@ pub fn run_lines<'a, R: Runner, O: Sink>(
     fold: &mut Fold<'a, R::Tree>,
     held: &mut VecDeque<Batch<'a>>,
     out: &mut O,
-    journal: &mut Journal,
+    journal: &mut J,
 ) -> Result<(), RunFault>
-    requires going { IsGoing R.fits (R.standing runner.old) journal.old.rounds (fold_seen R.pending fold.old) []
-        (batches_from [] items.now) (length items.now) }
+    requires going { IsGoing R.fits (R.standing runner.old) (J.seen journal.old).rounds
+        (fold_seen R.pending fold.old) [] (batches_from [] items.now) (length items.now) }
     requires none { held.old.items ≡ [] }
     requires point { fold.old.point + length items.now < 2 ^ 32 }
     requires can { R.Can runner.old }
-    requires chosen { AreOfRounds R.chosen journal.old.rounds journal.old.places }
+    requires chosen { AreOfRounds R.chosen (J.seen journal.old).rounds (J.seen journal.old).places }
+    requires may { (round : ℕ) (entries : List Choice) → R.chosen round entries → J.may round entries }
     ensures ran { OnOk result (LinesOver show.now failmode (R.standing runner.old) (R.standing runner.new)
         (fold_seen R.pending fold.old) (fold_seen R.pending fold.new) items.now (batches_seen held.new.items)
-        journal.old journal.new (R.tells runner.old) (R.tells runner.new) (O.holds out.old) (O.holds out.new)) }
+        (J.seen journal.old) (J.seen journal.new) (R.tells runner.old) (R.tells runner.new) (O.holds out.old)
+        (O.holds out.new)) }
     ensures cut { IfErr result
         (LinesCut show.now failmode (R.standing runner.old) (fold_seen R.pending fold.old) items.now
-        journal.old journal.new (R.tells runner.old) (R.tells runner.new)
+        (J.seen journal.old) (J.seen journal.new) (R.tells runner.old) (R.tells runner.new)
         (stopping_of (R.standing runner.new) (R.stops runner.new)) (O.holds out.old) (O.holds out.new)) }
-    ensures steady { OnOk result (IsSteady R.fits (R.standing runner.new) journal.new.rounds
+    ensures steady { OnOk result (IsSteady R.fits (R.standing runner.new) (J.seen journal.new).rounds
         (fold_seen R.pending fold.new)) }
-    ensures last { OnOk result ((R.standing runner.new).last ≡ journal.new.rounds) }
+    ensures last { OnOk result ((R.standing runner.new).last ≡ (J.seen journal.new).rounds) }
     ensures runs { OnOk result ((R.standing runner.new).stopped ≡ false) }
     ensures tops { (R.standing runner.new).tops ≡ (R.standing runner.old).tops }
     ensures rows { (R.standing runner.new).rows ≡ (R.standing runner.old).rows }
@@ -59,7 +62,7 @@ pub fn run_lines<'a, R: Runner, O: Sink>(
     ensures calm { IsErrOf result RunFault.Memory → (R.standing runner.new).faults ≡ (R.standing runner.old).faults }
     ensures sink { IsErrOf result RunFault.Sink → Rose (O.faults out.old) (O.faults out.new) }
     ensures can { R.Can runner.new }
-    ensures chosen { AreOfRounds R.chosen journal.new.rounds journal.new.places }
+    ensures chosen { AreOfRounds R.chosen (J.seen journal.new).rounds (J.seen journal.new).places }
     ensures same { R.same runner.old runner.new }
 {
     let mut from = items;

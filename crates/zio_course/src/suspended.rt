@@ -1,6 +1,7 @@
 //! The round of a `clear`: the trees that are suspended.
 
-ghost use Rattle.std.specs.Prelude.{◌≡◌, ◌+◌, ◌<◌, ◌≤◌, ◌^◌, [], ℕ, List, IfErr, IfOk, IfSome, IsErrOf, OnOk, false, map};
+ghost use Rattle.std.specs.Prelude.{◌≡◌, ◌+◌, ◌<◌, ◌≤◌, ◌^◌, [], ℕ, List, IfErr, IfOk, IfSome, IsErrOf, OnOk, false, length, map};
+ghost use Rattle.zio_types.specs.Choices.{Choice};
 ghost use Rattle.zio_script.specs.Accepted.{AreRising};
 ghost use Rattle.zio_cksum.specs.Images.{Images};
 ghost use Rattle.zio_gang.specs.Attempts.{Pending};
@@ -17,18 +18,19 @@ ghost use Rattle.zio_course.specs.Told.{AreFinishedOf, ended_told, line_told, no
 use crate::batch::BatchEnd;
 use crate::bound::Bound;
 use crate::forest::reversed;
+use crate::records::Records;
 use crate::round::{WholeRound, whole_round};
 use crate::runner::{Job, RequestEnd, Runner, Stop};
 use crate::told::{take_of, tell_request};
 use std::alloc::Global;
 use zio_report::ReportLine;
 use zio_script::{Failmode, Request};
-use zio_types::{Journal, List, NoMemory};
+use zio_types::{List, NoMemory};
 
 /// Runs the trees that are suspended as one round after those that the journal counts. Their requests come by number.
 ///
 /// What it leaves is what the round of a batch leaves in which nothing was answered, also where it is cut short.
-pub fn run_suspended<R: Runner>(
+pub fn run_suspended<R: Runner, J: Records>(
     alloc: Global,
     runner: &mut R,
     trees: List<R::Tree>,
@@ -36,23 +38,25 @@ pub fn run_suspended<R: Runner>(
     point: u32,
     failmode: Failmode,
     bound: &mut Bound,
-    journal: &mut Journal,
+    journal: &mut J,
 ) -> Result<BatchEnd<R::Tree>, Stop>
     requires unfinished { AreUnfinished (map R.pending trees) (map (λ r. r.now) unfinished.now) }
     requires fits { (name : List ℕ) → IfSome (named_in bound.old name) R.fits }
-    requires rounds { journal.old.rounds + 1 < 2 ^ 32 }
+    requires rounds { (J.seen journal.old).rounds + 1 < 2 ^ 32 }
     requires runs { (R.standing runner.old).stopped ≡ false }
-    requires next { (R.standing runner.old).last ≤ journal.old.rounds }
+    requires next { (R.standing runner.old).last ≤ (J.seen journal.old).rounds }
     requires trees { AreRunnable (R.standing runner.old) (map R.pending trees) }
     requires can { R.Can runner.old }
-    requires chosen { AreOfRounds R.chosen journal.old.rounds journal.old.places }
+    requires chosen { AreOfRounds R.chosen (J.seen journal.old).rounds (J.seen journal.old).places }
+    requires may { (round : ℕ) (entries : List Choice) → R.chosen round entries → J.may round entries }
     ensures ran { IfOk result (λ ran. (end : SeenEnd)
-        × IsBatchRun no_error (map (λ r. r.now) unfinished.now) bound.old bound.new journal.old journal.new end
-        ran.lines (map R.pending ran.left)
-        × IsRoundEnd (R.standing runner.old) (journal.old.rounds + 1) (map R.pending trees) end
-        × StandsAfter (R.standing runner.old) (R.standing runner.new) (journal.old.rounds + 1) (map R.pending trees) end
+        × IsBatchRun no_error (map (λ r. r.now) unfinished.now) bound.old bound.new (J.seen journal.old)
+        (J.seen journal.new) end ran.lines (map R.pending ran.left)
+        × IsRoundEnd (R.standing runner.old) ((J.seen journal.old).rounds + 1) (map R.pending trees) end
+        × StandsAfter (R.standing runner.old) (R.standing runner.new) ((J.seen journal.old).rounds + 1)
+        (map R.pending trees) end
         × ((before : Images) → R.tells runner.old before → (after : Images) × R.tells runner.new after
-        × IsRound (terms_at (R.standing runner.old) failmode (journal.old.rounds + 1) point)
+        × IsRound (terms_at (R.standing runner.old) failmode ((J.seen journal.old).rounds + 1) point)
         (map R.pending trees) before after end)) }
     ensures shown { IfOk result (λ ran. AreWhole ran.lines) }
     ensures fits { OnOk result ((name : List ℕ) → IfSome (named_in bound.new name) R.fits) }
@@ -60,19 +64,20 @@ pub fn run_suspended<R: Runner>(
         × R.tells runner.new after
         × IsCutShort (R.standing runner.old) (R.standing runner.new)
         (stopping_of (R.standing runner.new) (R.stops runner.new)) stop
-        (terms_at (R.standing runner.old) failmode (journal.old.rounds + 1) point)
-        (map R.pending trees) [] journal.old journal.new before after) }
+        (terms_at (R.standing runner.old) failmode ((J.seen journal.old).rounds + 1) point)
+        (map R.pending trees) [] (J.seen journal.old) (J.seen journal.new) before after) }
     ensures tops { (R.standing runner.new).tops ≡ (R.standing runner.old).tops }
     ensures rows { (R.standing runner.new).rows ≡ (R.standing runner.old).rows }
-    ensures kept { IsErrOf result Stop.Device → journal.new ≡ journal.old }
+    ensures kept { IsErrOf result Stop.Device → (J.seen journal.new) ≡ (J.seen journal.old) }
     ensures device { IsErrOf result Stop.Device
         → AnyRose (R.standing runner.old).faults (R.standing runner.new).faults }
     ensures calm { IsErrOf result Stop.Memory → (R.standing runner.new).faults ≡ (R.standing runner.old).faults }
     ensures can { R.Can runner.new }
-    ensures chosen { AreOfRounds R.chosen journal.new.rounds journal.new.places }
+    ensures gone { OnOk result (J.gone journal.new ≤ length (J.seen journal.old).places) }
+    ensures chosen { AreOfRounds R.chosen (J.seen journal.new).rounds (J.seen journal.new).places }
     ensures same { R.same runner.old runner.new }
 {
-    let round = journal.rounds + 1;
+    let round = journal.rounds() + 1;
     let job = Job {
         round,
         point,

@@ -1,2 +1,3 @@
 pub mod ForestLemmas
 pub mod WholeLemmas
+pub mod SumLemmas

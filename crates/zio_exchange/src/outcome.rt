@@ -2,6 +2,7 @@
 
 ghost use Rattle.std.specs.Prelude.{◌≡◌};
 
+use crate::summed::Summed;
 use crate::whole::Whole;
 use std::marker::Model;
 use zio_blkptr::Bp;
@@ -100,7 +101,7 @@ pub enum Outcome<S> {
         pointer: Option<Bp>,
     },
     /// What an operation on a leaf, or a read of copies, answered: the bytes, none of a write, or an error.
-    Found(Result<Bytes, Errno>),
+    Found(Result<Summed, Errno>),
     /// What a walk over headers left.
     Walked(Walked),
     /// What a part left that was written.

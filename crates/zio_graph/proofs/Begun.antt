@@ -22,9 +22,9 @@ use Rattle.zio_exchange.specs.Wholes.{AreTrees}
 use Rattle.zio_exchange.specs.declared.waiting.UnfinishedRequest.{UnfinishedRequest}
 use Rattle.zio_turns.specs.AtLeaves.{WaitsFor, key_of, keys_at, keys_of, waiting_at}
 use Rattle.zio_turns.specs.Desks.{IsDeskAt}
-use Rattle.zio_turns.specs.Entries.{top_at}
+use Rattle.zio_staged.specs.Entries.{top_at}
 use Rattle.zio_turns.specs.Ledgers.{Books, no_books}
-use Rattle.zio_turns.specs.Parts.{Nodes}
+use Rattle.zio_staged.specs.Parts.{Nodes}
 use Rattle.zio_turns.specs.Rounds.{Before, KeepsRound, SoFar}
 use Rattle.zio_turns.specs.UnderTrees.{AreInStates, AreSettledWith, HaveBegun, IsInState, RunsSome, RunsTrees, StateIn, TreesBegin}
 use Rattle.zio_turns.specs.UnderTurns.{AreLent, TellNow}

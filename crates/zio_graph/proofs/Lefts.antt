@@ -18,7 +18,7 @@ use Rattle.zio_exchange.specs.declared.waiting.UnfinishedRequest.{UnfinishedRequ
 use Rattle.zio_exchange.proofs.ForestLemmas.{forest_flat}
 use Rattle.zio_exchange.proofs.WholeLemmas.{trees_count}
 use Rattle.zio_turns.specs.Attempting.{Course, settled_with}
-use Rattle.zio_turns.specs.Entries.{standing, top_at}
+use Rattle.zio_staged.specs.Entries.{standing, top_at}
 use Rattle.zio_turns.specs.UnderTrees.{AreInStates, AreSettledWith, IsInState, IsLeftOf, StateIn}
 use Rattle.zio_turns.specs.declared.trees.TreeEnd.{TreeEnd}
 use Rattle.zio_turns.specs.declared.trees.TreeEnd.TheVariants.{Finished as RootFinished, Suspended}

@@ -14,7 +14,7 @@ use Rattle.zio_exchange.specs.declared.waiting.UnfinishedRequest.{UnfinishedRequ
 use Rattle.zio_exchange.specs.declared.outcome.FinishedRequest.{FinishedRequest}
 use Rattle.slab.specs.Slab.{Slab}
 use Rattle.zio_turns.specs.Ledgers.{AreToldAs, Books, Ending}
-use Rattle.zio_turns.specs.Parts.{Nodes}
+use Rattle.zio_staged.specs.Parts.{Nodes}
 use Rattle.zio_turns.specs.Stops.{IsStopped, TreesStopWith}
 use Rattle.zio_turns.specs.UnderTrees.{RunsToEnd, TreesBegin}
 use Rattle.zio_turns.specs.declared.entry.TiedNode.{TiedNode}

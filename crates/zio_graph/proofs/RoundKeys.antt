@@ -8,7 +8,7 @@ use Rattle.zio_gang.specs.Attempts.{Terms}
 use Rattle.zio_trace.specs.Families.{Forest}
 use Rattle.zio_trace.proofs.RoundTouches.{entries_of_round}
 use Rattle.slab.specs.Slab.{Slab}
-use Rattle.zio_turns.specs.Parts.{Nodes}
+use Rattle.zio_staged.specs.Parts.{Nodes}
 use Rattle.zio_turns.specs.Rounds.{SoFar}
 use Rattle.zio_turns.specs.UnderTrees.{IsOver}
 use Rattle.zio_turns.specs.declared.entry.TiedNode.{TiedNode}

@@ -30,10 +30,10 @@ use Rattle.zio_exchange.specs.declared.outcome.FinishedRequest.{FinishedRequest}
 use Rattle.zio_turns.specs.AtLeaves.{keys_at}
 use Rattle.zio_turns.specs.Desks.{IsDeskAt}
 use Rattle.zio_turns.specs.Engine.{Matches}
-use Rattle.zio_turns.specs.Entries.{Held, Shelf, flying_at, times_in, top_at}
+use Rattle.zio_staged.specs.Entries.{Held, Shelf, flying_at, times_in, top_at}
 use Rattle.zio_turns.specs.Grounds.{AreReady}
 use Rattle.zio_turns.specs.Ledgers.{AreOnce, found_so_far}
-use Rattle.zio_turns.specs.Parts.{Nodes}
+use Rattle.zio_staged.specs.Parts.{Nodes}
 use Rattle.zio_turns.specs.Rounds.{Before, KeepsRound, SoFar}
 use Rattle.zio_turns.specs.Slabs.{shelf_of}
 use Rattle.zio_turns.specs.UnderTrees.{IsOver}

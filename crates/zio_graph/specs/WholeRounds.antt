@@ -12,7 +12,7 @@ use Rattle.zio_exchange.specs.declared.waiting.UnfinishedRequest.{UnfinishedRequ
 use Rattle.zio_exchange.specs.declared.outcome.FinishedRequest.{FinishedRequest}
 use Rattle.slab.specs.Slab.{Slab}
 use Rattle.zio_turns.specs.Ledgers.{AreToldAs}
-use Rattle.zio_turns.specs.Parts.{Nodes}
+use Rattle.zio_staged.specs.Parts.{Nodes}
 use Rattle.zio_turns.specs.Rounds.{Before, SoFar}
 use Rattle.zio_turns.specs.UnderTrees.{IsOver, RunsTrees}
 use Rattle.zio_turns.specs.UnderTurns.{TellNow}

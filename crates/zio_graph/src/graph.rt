@@ -1,4 +1,4 @@
-//! The engine on one thread.
+//! The engine.
 
 ghost use Rattle.std.specs.Prelude.{◌≡◌, ◌<◌, ◌^◌, IfErr, IfOk, IfSome, IsErrOf, List as Seq, OnErr, OnOk, [], false, length, map};
 ghost use Rattle.std.specs.List.{AllByRecursion};
@@ -38,20 +38,22 @@ use zio_nodes::NodeBox;
 use zio_outside::{Disk, Failed, SyncDisk};
 use zio_script::Request;
 use zio_stages::Finished;
-use zio_turns::{DisksBack, Grounds, Picks};
+use zio_turns::{DisksBack, Grounds, Helper, Picks};
 use zio_types::{List, Top};
 
-/// Runs rounds of trees of requests, whose nodes take turns in whatever order is picked. Contracts see it as its
-/// setting, its disks and the places in use, the number of its last round, and whether a round was stopped.
+/// Runs rounds of trees of requests, whose nodes take turns in whatever order is picked. A helper may reckon what they
+/// need before it is their turn. Contracts see it as its setting, its disks and the places in use, the number of its
+/// last round, and whether a round was stopped.
 #[derive(Drop)]
-pub struct Graph<D: Disk + Drop, P: Picks + Drop> {
+pub struct Graph<D: Disk + Drop, P: Picks + Drop, H: Helper<NodeBox> + Drop> {
     grounds: Grounds<D>,
     picks: P,
+    helper: H,
     last: u32,
     stopped: bool,
 }
 
-impl<D: Disk + Drop, P: Picks + Drop> Model for Graph<D, P> {
+impl<D: Disk + Drop, P: Picks + Drop, H: Helper<NodeBox> + Drop> Model for Graph<D, P, H> {
     ghost use Rattle.std.specs.Prelude.{◌≡◌, false};
     ghost use Rattle.zio_graph.specs.Graphs.{AreReadyGrounds, SeenGraph};
 
@@ -68,7 +70,7 @@ impl<D: Disk + Drop, P: Picks + Drop> Model for Graph<D, P> {
     ghost invariant = { λ g. g.stopped ≡ false → AreReadyGrounds D.bytes g.grounds };
 }
 
-impl<D: Disk + Drop, P: Picks + Drop> Graph<D, P> {
+impl<D: Disk + Drop, P: Picks + Drop, H: Helper<NodeBox> + Drop> Graph<D, P, H> {
     /// Over disks that bear the tops, with all of these free. The tops are those of the setting. Where memory is
     /// refused the disks come back, and the rest is dropped.
     pub fn new(
@@ -77,7 +79,8 @@ impl<D: Disk + Drop, P: Picks + Drop> Graph<D, P> {
         disks: Vec<D>,
         tops: List<Top>,
         picks: P,
-    ) -> Result<Graph<D, P>, DisksBack<D>>
+        helper: H,
+    ) -> Result<Graph<D, P, H>, DisksBack<D>>
         requires tops { tops ≡ setting.tops }
         requires can { CanRun setting (map D.bytes disks.items) }
         requires count { length disks.items < 2 ^ 32 }
@@ -89,6 +92,7 @@ impl<D: Disk + Drop, P: Picks + Drop> Graph<D, P> {
         Ok(Graph {
             grounds,
             picks,
+            helper,
             last: 0,
             stopped: false,
         })
@@ -119,6 +123,7 @@ impl<D: Disk + Drop, P: Picks + Drop> Graph<D, P> {
         requires runs { self.old.stopped ≡ false }
         requires next { self.old.last < job.round }
         requires trees { AreRunnable (standing_of D.faults self.old) (map (λ (tree : Seq Pending). tree) job.trees) }
+        requires can { H.Can }
         ensures round { IfOk result (λ end. (before : Images) → Tell D.image self.old.disks before → (after : Images)
             × Tell D.image self.new.disks after
             × IsRound (terms_at (standing_of D.faults self.old) job.failmode job.round job.point)
@@ -159,9 +164,10 @@ impl<D: Disk + Drop, P: Picks + Drop> Graph<D, P> {
             left,
             completions,
             entries,
-        } = run_wholes::<NodeBox, D, P>(
+        } = run_wholes::<NodeBox, D, P, H>(
             &mut self.grounds,
             &mut self.picks,
+            &self.helper,
             round,
             failmode,
             wholes,
@@ -184,7 +190,7 @@ impl<D: Disk + Drop, P: Picks + Drop> Graph<D, P> {
     }
 }
 
-impl<D: SyncDisk + Drop, P: Picks + Drop> Graph<D, P> {
+impl<D: SyncDisk + Drop, P: Picks + Drop, H: Helper<NodeBox> + Drop> Graph<D, P, H> {
     /// Makes the images of all disks stable, also of those that no top names, in their order and up to the first that
     /// fails. No image changes, and nothing else of the engine.
     pub fn flush(&mut self) -> Result<(), Failed>

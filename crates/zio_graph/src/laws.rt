@@ -43,7 +43,7 @@ ghost use Rattle.zio_graph.specs.InUse.{LeavesInUse};
 ghost use Rattle.zio_graph.specs.Jobs.{IsSoundJob, size_at};
 ghost use Rattle.zio_graph.specs.RoundEnds.{IsByNumber, TellsRound, completions_of};
 
-use zio_turns::NodeFacts;
+use zio_staged::NodeFacts;
 
 /// Trees that a runner may be given are a sound round, all of them under way together: where the tops hold their
 /// leaves, which stand once and lie on disks of these sizes, and the places in use lie inside the tops.

@@ -1,5 +1,5 @@
-//! The engine on one thread: `Graph` makes trees of requests and runs rounds of them, in whatever order is picked. It
-//! is a `Runner` of `zio_course`, so scripts run on it.
+//! The engine: `Graph` makes trees of requests and runs rounds of them, in whatever order is picked. One thread takes
+//! the turns; a `Helper` may reckon ahead beside it. It is a `Runner` of `zio_course`, so scripts run on it.
 //!
 //! It stands on `zio_turns`, which runs the trees of a round over any nodes, on `zio_nodes`, whose nodes these are, and
 //! on `zio_sound`, which says what such a round is to a script.
@@ -21,4 +21,4 @@ pub use laws::{
     stopped_rounds_change_what_is_loose,
 };
 pub use tree::EngineTree;
-pub use zio_turns::{FirstPicks, Picks, SeedPicks, from_seed};
+pub use zio_turns::{Alone, FirstPicks, Helper, Picks, SeedPicks, Wanted, from_seed};

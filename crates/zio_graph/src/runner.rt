@@ -1,17 +1,18 @@
-//! The engine on one thread as a runner of rounds.
+//! The engine as a runner of rounds.
 
 use crate::ends::told_of;
 use crate::graph::Graph;
 use crate::tree::EngineTree;
 use zio_course::{ChildrenBack, Job, RequestEnd, RoundEnd, Runner, Stop};
 use zio_gang::Tree;
+use zio_nodes::NodeBox;
 use zio_outside::Disk;
 use zio_script::Request;
 use zio_stages::Finished;
-use zio_turns::Picks;
+use zio_turns::{Helper, Picks};
 use zio_types::List;
 
-impl<D: Disk + Drop, P: Picks + Drop> Runner for Graph<D, P> {
+impl<D: Disk + Drop, P: Picks + Drop, H: Helper<NodeBox> + Drop> Runner for Graph<D, P, H> {
     ghost use Rattle.std.specs.Prelude.{◌≡◌, ◌<◌, List, false, IfErr, IfOk, IfSome, IsErrOf, OnErr, map};
     ghost use Rattle.std.specs.List.{AllByRecursion};
     ghost use Rattle.zio_cksum.specs.Images.{Images};
@@ -56,7 +57,7 @@ impl<D: Disk + Drop, P: Picks + Drop> Runner for Graph<D, P> {
 
     ghost chosen = { λ round entries. Unit {0} };
 
-    ghost Can = { λ _. Unit {0} };
+    ghost Can = { λ _. H.Can };
 
     ghost stops = { λ _ t trees before. Unit {0} };
 
@@ -84,6 +85,7 @@ impl<D: Disk + Drop, P: Picks + Drop> Runner for Graph<D, P> {
         requires runs { self.old.stopped ≡ false }
         requires next { self.old.last < job.round }
         requires trees { AreRunnable (standing_of D.faults self.old) (map (λ (tree : List Pending). tree) job.trees) }
+        requires can { H.Can }
         ensures round { IfOk result (λ end. (before : Images) → Tell D.image self.old.disks before → (after : Images)
             × Tell D.image self.new.disks after
             × IsRound (terms_at (standing_of D.faults self.old) job.failmode job.round job.point)
@@ -105,6 +107,7 @@ impl<D: Disk + Drop, P: Picks + Drop> Runner for Graph<D, P> {
             × Tell D.image self.new.disks after
             × DiffersInRound (standing_of D.faults self.old)
             (map (λ (tree : List Pending). tree) job.trees) before after) }
+        ensures can { H.Can }
         ensures same { AreSameDisks D.bytes D.faults D.faults_at_fetch D.home D.image D.sound self.old.disks
             self.new.disks }
     {

@@ -1,4 +1,4 @@
-//! A round of whole trees, on one thread.
+//! A round of whole trees.
 
 ghost use Rattle.std.specs.Prelude.{◌≡◌, IfOk, IsErrOf, List as Seq, OnErr, OnOk, length, map};
 ghost use Rattle.std.specs.List.{AllByRecursion};
@@ -22,16 +22,18 @@ use zio_disks::Stop as DiskStop;
 use zio_exchange::{Finished, Whole};
 use zio_outside::Disk;
 use zio_script::Failmode;
-use zio_turns::{Grounds, Picks, Staged, TreeState, Turns, begin_trees, run_trees};
+use zio_staged::Staged;
+use zio_turns::{Grounds, Helper, Picks, TreeState, Turns, begin_trees, run_trees};
 use zio_types::List;
 
 /// Runs a round of these trees, in whatever order is picked, until each finished or is suspended.
 ///
 /// It is stopped by a device exactly where a disk's count of faults rose, else for want of memory; then the grounds
 /// aren't to be used for a round.
-pub(crate) fn run_wholes<N: Staged, D: Disk + Drop, P: Picks>(
+pub(crate) fn run_wholes<N: Staged, D: Disk + Drop, P: Picks, H: Helper<N>>(
     grounds: &mut Grounds<D>,
     picks: &mut P,
+    helper: &H,
     round: u32,
     failmode: Failmode,
     wholes: List<Whole>,
@@ -40,6 +42,7 @@ pub(crate) fn run_wholes<N: Staged, D: Disk + Drop, P: Picks>(
     requires trees { AllByRecursion IsEngineTree wholes }
     requires runs { AreRunnable (standing_on D.faults grounds.old) (map pendings wholes) }
     requires over { AllByRecursion (N.tree_over grounds.old.setting.tops) wholes }
+    requires can { H.Can }
     ensures round { IfOk result (λ end. (before : Images) → Tell D.image grounds.old.disks.items before
         → (after : Images)
         × Tell D.image grounds.new.disks.items after
@@ -71,7 +74,9 @@ pub(crate) fn run_wholes<N: Staged, D: Disk + Drop, P: Picks>(
     ensures tops { grounds.new.desk.tops ≡ grounds.old.desk.tops }
 {
     let alloc = grounds.alloc;
-    let TreesEnd { trees, ended } = run_to_end::<N, D, P>(grounds, picks, round, failmode, wholes)?;
+    let TreesEnd { trees, ended } = run_to_end::<N, D, P, H>(
+        grounds, picks, helper, round, failmode, wholes,
+    )?;
     let entries = grounds.end_round();
     let left = left_of(alloc, trees)?;
     let completions = completions_of(alloc, round, ended.as_slice())?;
@@ -94,9 +99,10 @@ struct TreesEnd<S> {
 }
 
 /// Runs the trees until each is settled.
-fn run_to_end<N: Staged, D: Disk + Drop, P: Picks>(
+fn run_to_end<N: Staged, D: Disk + Drop, P: Picks, H: Helper<N>>(
     grounds: &mut Grounds<D>,
     picks: &mut P,
+    helper: &H,
     round: u32,
     failmode: Failmode,
     wholes: List<Whole>,
@@ -105,6 +111,7 @@ fn run_to_end<N: Staged, D: Disk + Drop, P: Picks>(
     requires trees { AllByRecursion IsEngineTree wholes }
     requires runs { AreRunnable (standing_on D.faults grounds.old) (map pendings wholes) }
     requires over { AllByRecursion (N.tree_over grounds.old.setting.tops) wholes }
+    requires can { H.Can }
     ensures ends { IfOk result (λ end. EndsOn N.nodes D.bytes D.image grounds.old grounds.new round failmode wholes
         end.trees.items end.ended.items) }
     ensures count { IfOk result (λ end. length end.trees.items ≡ length wholes) }
@@ -127,7 +134,7 @@ fn run_to_end<N: Staged, D: Disk + Drop, P: Picks>(
     let mut trees = begin_trees(&mut turns, alloc, round, failmode, wholes)?;
     let mut ended = Vec::new(alloc);
     match run_trees(
-        &mut turns, grounds, picks, round, failmode, &mut trees, &mut ended,
+        &mut turns, grounds, picks, helper, round, failmode, &mut trees, &mut ended,
     ) {
         Ok(()) => Ok(TreesEnd { trees, ended }),
         Err(stop) => Err(stop_of(stop)),

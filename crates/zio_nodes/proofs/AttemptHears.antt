@@ -25,7 +25,7 @@ use Rattle.zio_exchange.specs.declared.outcome.Outcome.TheVariants.{Again, Finis
 use Rattle.zio_stages.specs.declared.closing.Seal.{Seal}
 use Rattle.zio_stages.specs.declared.request_node.RequestNode.{RequestNode}
 use Rattle.zio_stages.proofs.RequestHears.{one_place}
-use Rattle.zio_turns.specs.Stages.{Hears, HearsEarly}
+use Rattle.zio_staged.specs.Stages.{Hears, HearsEarly}
 use Rattle.zio_nodes.specs.Nodes.{nodes}
 use Rattle.zio_nodes.specs.declared.node.Node.{Node}
 use Rattle.zio_nodes.specs.declared.node.Node.TheVariants.{Request}

@@ -10,7 +10,7 @@ use Rattle.zio_trace.specs.Keys.{bit}
 use Rattle.zio_frames.specs.Frames.{Child}
 use Rattle.zio_stages.specs.NodeChildren.{first_owing, is_awaited, is_owing}
 use Rattle.zio_stages.specs.HeadsNodes.{walk_kids_max}
-use Rattle.zio_turns.specs.Entries.{count_owing, owing}
+use Rattle.zio_staged.specs.Entries.{count_owing, owing}
 use Rattle.zio_nodes.specs.Bounds.{copies_max, kid_share, walk_max}
 
 -- ---- a child that is missing counts

@@ -6,9 +6,9 @@ use Rattle.zio_frames.specs.Frames.{Child, Stack}
 use Rattle.zio_trace.specs.Tasks.{Task, Value}
 use Rattle.zio_exchange.specs.SpaceCalls.{SpaceCall}
 use Rattle.zio_stages.specs.Sealed.{Outcome}
-use Rattle.zio_turns.specs.Stages.{EachIn, GoesOn, Hears, HearsEarly, HearsSome, HearsSomeEarly, IsMove, IsNow, Lessens, MayGoOn}
+use Rattle.zio_staged.specs.Stages.{EachIn, GoesOn, Hears, HearsEarly, HearsSome, HearsSomeEarly, IsMove, IsNow, Lessens, MayGoOn}
 use Rattle.zio_nodes.specs.SealedMoves.{Move}
-use Rattle.zio_turns.specs.declared.staged.Move.TheVariants.{End, Grow, Leaf as ToLeaf, Next, Ready, Wait}
+use Rattle.zio_staged.specs.declared.staged.Move.TheVariants.{End, Grow, Leaf as ToLeaf, Next, Ready, Wait}
 use Rattle.zio_nodes.specs.BoxMoves.{unboxed}
 use Rattle.zio_nodes.specs.Nodes.{IsBoxOver, IsNodeDue, IsNodeOver, IsTreeOver, boxed_nodes, gave_of, left_of, nodes}
 use Rattle.zio_nodes.specs.declared.node.Node.{Node}

@@ -7,7 +7,7 @@ use Rattle.zio_masks.specs.declared.stage.Stage.TheVariants.{DvaClaim, Done, Gan
 use Rattle.zio_script.specs.Requests.{kind_of}
 use Rattle.zio_gang.specs.declared.tree.Tree.{Tree}
 use Rattle.zio_exchange.specs.SpaceCalls.{IsClaimAtMost, SpaceCall}
-use Rattle.zio_turns.specs.Stages.{told_cost}
+use Rattle.zio_staged.specs.Stages.{told_cost}
 use Rattle.zio_stages.specs.OwnClaims.{HasClaimEnded}
 use Rattle.zio_stages.specs.RequestClaims.{HasEndedClaim, IsClaimWith, IsClaimingWith, IsDueOrClaim, IsPastDue, IsWalkDue}
 use Rattle.zio_stages.specs.RequestReads.{HasFound}

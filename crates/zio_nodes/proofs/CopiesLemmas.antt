@@ -26,8 +26,8 @@ use Rattle.zio_exchange.specs.declared.outcome.Outcome.TheVariants.{Again, Finis
 use Rattle.zio_stages.specs.declared.read_io.ReadIo.{ReadIo}
 use Rattle.zio_stages.proofs.CopiesNodeLemmas.{own_frame}
 use Rattle.zio_stages.proofs.OutPlaces.{read_asks}
-use Rattle.zio_turns.specs.Parts.{ended_in_slot}
-use Rattle.zio_turns.specs.Stages.{Ends, GoesOn, Hears}
+use Rattle.zio_staged.specs.Parts.{ended_in_slot}
+use Rattle.zio_staged.specs.Stages.{Ends, GoesOn, Hears}
 use Rattle.zio_masks.specs.Stages.{IsNext}
 use Rattle.zio_masks.specs.declared.pipeline.TheConstants.{READ}
 use Rattle.zio_masks.specs.declared.stage.Stage.{Stage}

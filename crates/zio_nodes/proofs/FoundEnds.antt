@@ -4,13 +4,13 @@ use Rattle.std.specs.List.{AllByRecursion, flat_map}
 use Rattle.std.specs.Prelude.{IsPermutation}
 use Rattle.std.proofs.lemmas.List.Sorted.{IsPermutation-refl}
 use Rattle.zio_types.specs.declared.error.Errno.{Errno}
+use Rattle.zio_types.specs.declared.error.Errno.TheVariants.{Nxio, Cksum, Io, Nospc, Inval, Exist, Noent}
 use Rattle.zio_types.specs.declared.place.Place.{Place}
 use Rattle.zio_types.specs.declared.place.Top.{Top}
-use Rattle.zio_types.specs.Errors.{worst_error, worst_of}
+use Rattle.zio_types.specs.Errors.{second_if, worst_error, worst_of}
 use Rattle.zio_script.specs.Requests.{kind_of}
 use Rattle.zio_script.specs.declared.script.Work.{Work}
 use Rattle.zio_script.specs.declared.script.Work.TheVariants.{Null, Read, Write, Free, Claim}
-use Rattle.zio_disks.proofs.WriteLemmas.{worst_there}
 use Rattle.zio_gang.specs.Attempts.{Child, Terms, all_bits, bits_of, children_of, finished_of, has_bits, insert_children}
 use Rattle.zio_trace.specs.Tasks.{AttemptedBy}
 use Rattle.zio_children.specs.RequestKids.{child_of, finished_in, return_by, returns_in}
@@ -34,9 +34,9 @@ use Rattle.zio_stages.specs.declared.request_node.OwnFound.{OwnFound}
 use Rattle.zio_stages.specs.declared.request_node.RequestNode.{RequestNode}
 use Rattle.zio_stages.proofs.KidAsking.{kids_full}
 use Rattle.zio_stages.proofs.RequestFoundLemmas.{found_in}
-use Rattle.zio_turns.specs.Parts.{ended_in_slot}
-use Rattle.zio_turns.specs.Stages.{Ends}
-use Rattle.zio_turns.specs.declared.staged.Move.TheVariants.{End}
+use Rattle.zio_staged.specs.Parts.{ended_in_slot}
+use Rattle.zio_staged.specs.Stages.{Ends}
+use Rattle.zio_staged.specs.declared.staged.Move.TheVariants.{End}
 use Rattle.zio_masks.specs.declared.stage.Stage.{Stage}
 use Rattle.zio_masks.specs.declared.stage.Stage.TheVariants.{Done}
 use Rattle.zio_nodes.specs.Nodes.{MovesBare, gave_of, nodes}
@@ -94,11 +94,26 @@ none_of : (a b : Bool) → b ≡ false → a && b ≡ false
 none_of true b e = e
 none_of false b e = refl
 
+-- the worst of an error and another is one
+none_second : (t : Bool) (e f : Errno) → is_none (second_if t (Some e) (Some f)) ≡ false
+none_second true e f = refl
+none_second false e f = refl
+
+none_worst : (e : Errno) (o : Option Errno) → is_none (worst_error (Some e) o) ≡ false
+none_worst Nxio None = refl
+none_worst Cksum None = refl
+none_worst Io None = refl
+none_worst Nospc None = refl
+none_worst Inval None = refl
+none_worst Exist None = refl
+none_worst Noent None = refl
+none_worst e (Some f) = none_second _ e f
+
 not_well : (r : RequestNode) (e : Errno) → is_well r (Some e) ≡ false
 not_well r e =
     let w : Option Errno = worst_of (map (λ (c : Child). c.error) (finished_in r.kids.kids)) in
     none_of (not (has_bits (all_bits (kind_of r.waiting.request.work) (Some e) r.waiting.request.canfail r.failmode (bits_of (returns_in r.kids.kids))))) (is_none (worst_error (Some e) w))
-    (ap (λ (o : Option Errno). is_none o) (sym (worst_there e w)))
+    (none_worst e w)
 
 -- ---- the block that it made
 

@@ -13,7 +13,7 @@ use Rattle.zio_script.specs.declared.script.Work.{Work}
 use Rattle.zio_gang.specs.declared.tree.Tree.{Tree}
 use Rattle.zio_exchange.specs.Outcomes.{freed_if}
 use Rattle.zio_exchange.specs.SpaceCalls.{calls_back}
-use Rattle.zio_turns.specs.Stages.{told_cost}
+use Rattle.zio_staged.specs.Stages.{told_cost}
 use Rattle.zio_stages.specs.RequestFrees.{FreesOn, HasFreed, HasKeptFailed, HasWalked, IsFreeWith, IsFreeing, IsFreeingWith, freed_by}
 use Rattle.zio_stages.specs.RequestKinds.{has_gang_stages, is_gang_tree}
 use Rattle.zio_stages.specs.RequestReads.{HasFound, found_error}

@@ -18,7 +18,7 @@ use Rattle.zio_stages.specs.StoredBlocks.{block_places}
 use Rattle.zio_stages.specs.declared.request_node.Own.{Own}
 use Rattle.zio_stages.specs.declared.request_node.Own.TheVariants.{Claim as ClaimOwn, Due, Found, Free as FreeOwn, Over, Read as ReadOwn, Stored, Write as WriteOwn}
 use Rattle.zio_stages.specs.declared.request_node.RequestNode.{RequestNode}
-use Rattle.zio_turns.specs.Stages.{AreItsOwn, may_free}
+use Rattle.zio_staged.specs.Stages.{AreItsOwn, may_free}
 use Rattle.zio_nodes.specs.Nodes.{IsNode, gave_of}
 use Rattle.zio_nodes.specs.RequestAts.{freed_so_far, gave_by}
 use Rattle.zio_nodes.specs.declared.node.Node.{Node}

@@ -28,8 +28,8 @@ use Rattle.zio_exchange.specs.declared.outcome.Outcome.TheVariants.{Again, Finis
 use Rattle.zio_stages.proofs.HeadsNodeLemmas.{Sits, SitsUntold, sits, sits_untold}
 use Rattle.zio_stages.proofs.ToldLemmas.{IsOutNone, none_since}
 use Rattle.zio_stages.specs.declared.closing.Seal.{Seal}
-use Rattle.zio_turns.specs.Parts.{ended_in_slot}
-use Rattle.zio_turns.specs.Stages.{Ends, GoesOn, Grows, Hears, HearsSome, HearsSomeEarly, Tells}
+use Rattle.zio_staged.specs.Parts.{ended_in_slot}
+use Rattle.zio_staged.specs.Stages.{Ends, GoesOn, Grows, Hears, HearsSome, HearsSomeEarly, Tells}
 use Rattle.zio_masks.specs.Stages.{IsNext, has}
 use Rattle.zio_masks.specs.declared.pipeline.Pipeline.{Pipeline}
 use Rattle.zio_masks.specs.declared.stage.Stage.{Stage}

@@ -23,8 +23,8 @@ use Rattle.zio_stages.specs.declared.leaf.LeafWork.{LeafWork}
 use Rattle.zio_stages.specs.declared.leaf.Progress.{Progress as WorkStage}
 use Rattle.zio_stages.specs.declared.leaf.Progress.TheVariants.{Answered, Due, Out}
 use Rattle.zio_exchange.specs.declared.outcome.Outcome.TheVariants.{Found}
-use Rattle.zio_turns.specs.Parts.{ended_in_slot}
-use Rattle.zio_turns.specs.Stages.{Ends, ShowsAnswer}
+use Rattle.zio_staged.specs.Parts.{ended_in_slot}
+use Rattle.zio_staged.specs.Stages.{Ends, ShowsAnswer}
 use Rattle.zio_nodes.specs.Bounds.{leaf_left}
 use Rattle.zio_nodes.specs.LeafAts.{IsAskedOrDue, IsLeafAt, LeafStands}
 use Rattle.zio_nodes.specs.Nodes.{gave_of, nodes}

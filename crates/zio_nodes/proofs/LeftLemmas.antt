@@ -24,7 +24,7 @@ use Rattle.zio_stages.specs.RequestOwns.{IsBlockOn}
 use Rattle.zio_stages.specs.WrittenBlocks.{IsSoundWrite}
 use Rattle.zio_stages.specs.declared.request_node.RequestNode.{RequestNode}
 use Rattle.zio_stages.specs.Closings.{outcome_of}
-use Rattle.zio_turns.specs.Stages.{OutcomeIn}
+use Rattle.zio_staged.specs.Stages.{OutcomeIn}
 use Rattle.zio_nodes.specs.RequestAts.{IsRequestOver}
 use Rattle.zio_nodes.specs.TreeAts.{IsRequestInside, IsSoundOver, IsTreeOver, is_childless}
 

@@ -11,7 +11,7 @@ use Rattle.zio_script.specs.Requests.{kind_of}
 use Rattle.zio_gang.specs.Attempts.{Terms}
 use Rattle.zio_frames.specs.Frames.{Stack}
 use Rattle.zio_exchange.specs.SpaceCalls.{AreReturns, SpaceCall, calls_back}
-use Rattle.zio_turns.specs.Stages.{GoesOn, IsMove, IsNow}
+use Rattle.zio_staged.specs.Stages.{GoesOn, IsMove, IsNow}
 use Rattle.zio_nodes.specs.SealedMoves.{Move}
 use Rattle.zio_nodes.specs.Nodes.{MovesBare, MovesWith, StaysBare, StaysWith, gave_of, moved, nodes}
 use Rattle.zio_nodes.specs.StageMoves.{CallsFit, GangFits, IssueFits, stage_of}

@@ -25,7 +25,7 @@ use Rattle.zio_stages.specs.StoredBlocks.{block_places}
 use Rattle.zio_stages.specs.declared.request_node.Own.TheVariants.{Due}
 use Rattle.zio_stages.specs.declared.request_node.RequestNode.{RequestNode}
 use Rattle.zio_stages.proofs.KidAsking.{kids_full}
-use Rattle.zio_turns.specs.Parts.{ended_in_slot}
+use Rattle.zio_staged.specs.Parts.{ended_in_slot}
 use Rattle.zio_nodes.specs.RequestAts.{AreOutBehind, NullStands, RequestStands, StandsAt, gave_by}
 use Rattle.zio_nodes.specs.RequestBounds.{left_by, null_left, own_at, own_left}
 use Rattle.zio_nodes.specs.declared.request_at.RequestAt.{RequestAt}

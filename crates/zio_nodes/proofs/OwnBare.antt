@@ -15,7 +15,7 @@ use Rattle.zio_stages.specs.OwnParts.{DoesThen, HandsTo, IsOwed}
 use Rattle.zio_stages.specs.RequestNodes.{IsRequestNode}
 use Rattle.zio_stages.specs.declared.request_node.RequestNode.{RequestNode}
 use Rattle.zio_nodes.specs.SealedMoves.{Move}
-use Rattle.zio_turns.specs.declared.staged.Move.TheVariants.{Grow, Next, Ready, Wait}
+use Rattle.zio_staged.specs.declared.staged.Move.TheVariants.{Grow, Next, Ready, Wait}
 use Rattle.zio_nodes.specs.Nodes.{IsNode, MovesBare, MovesWith, StaysBare, StaysWith, gave_of, told_of}
 use Rattle.zio_nodes.specs.RequestAts.{gave_by}
 use Rattle.zio_nodes.specs.StageMoves.{CallsFit, stage_of}

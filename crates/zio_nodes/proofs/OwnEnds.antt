@@ -8,9 +8,9 @@ use Rattle.zio_frames.specs.Frames.{Stack}
 use Rattle.std.specs.Prelude.{IsPermutation}
 use Rattle.zio_exchange.specs.Outcomes.{freed_by, held_by, made_by, stored_in}
 use Rattle.zio_stages.specs.RequestNodes.{IsRequestNode}
-use Rattle.zio_turns.specs.Stages.{GoesOn, IsMove, IsNow, Lessens, Stays}
+use Rattle.zio_staged.specs.Stages.{GoesOn, IsMove, IsNow, Lessens, Stays}
 use Rattle.zio_nodes.specs.SealedMoves.{Move}
-use Rattle.zio_turns.specs.declared.staged.Move.TheVariants.{End, Grow, Leaf as ToLeaf, Next, Ready, Wait}
+use Rattle.zio_staged.specs.declared.staged.Move.TheVariants.{End, Grow, Leaf as ToLeaf, Next, Ready, Wait}
 use Rattle.zio_nodes.specs.Nodes.{MovesBare, StaysBare, gave_of, left_of, nodes}
 use Rattle.zio_nodes.specs.Told.{is_told}
 use Rattle.zio_nodes.specs.declared.node.Node.{Node}

@@ -21,7 +21,7 @@ use Rattle.zio_stages.specs.declared.own_free.OwnFree.{OwnFree}
 use Rattle.zio_stages.specs.declared.request_node.Own.{Own}
 use Rattle.zio_stages.specs.declared.request_node.Own.TheVariants.{Claim as ClaimOwn, Due, Found, Free as FreeOwn, Over, Read as ReadOwn, Stored, Write as WriteOwn}
 use Rattle.zio_stages.specs.declared.request_node.RequestNode.{RequestNode}
-use Rattle.zio_turns.specs.Stages.{heard_max}
+use Rattle.zio_staged.specs.Stages.{heard_max}
 use Rattle.zio_nodes.specs.OwnAts.{HasKeptAll, IsClaimAtStage, IsFreeAtStage, IsGivingFree}
 use Rattle.zio_nodes.specs.OwnBounds.{claiming_left, free_walk_left, freeing_left}
 use Rattle.zio_nodes.specs.RequestAts.{IsRequestAtOver, freed_so_far, gave_by}

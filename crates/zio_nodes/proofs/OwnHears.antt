@@ -44,7 +44,7 @@ use Rattle.zio_stages.specs.declared.request_node.RequestNode.{RequestNode}
 use Rattle.zio_stages.proofs.PartSeats.{part_leaf}
 use Rattle.zio_stages.proofs.RequestHears.{if_there}
 use Rattle.zio_stages.proofs.RequestMembers.{gang_attempt}
-use Rattle.zio_turns.specs.Stages.{Hears, HearsSome}
+use Rattle.zio_staged.specs.Stages.{Hears, HearsSome}
 use Rattle.zio_nodes.specs.Nodes.{nodes}
 use Rattle.zio_nodes.specs.ReadBounds.{bodies_max}
 use Rattle.zio_nodes.specs.RequestAts.{IsRequestAtOver, StandsAt}

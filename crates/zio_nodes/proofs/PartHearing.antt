@@ -30,7 +30,7 @@ use Rattle.zio_stages.specs.declared.part_work.PartWork.{PartWork}
 use Rattle.zio_stages.specs.declared.write_io.WriteIo.{WriteIo}
 use Rattle.zio_stages.proofs.PartOwed.{own_out}
 use Rattle.zio_stages.proofs.PartSeats.{own_seat}
-use Rattle.zio_turns.specs.Stages.{Hears, HearsEarly, HearsSome, HearsSomeEarly}
+use Rattle.zio_staged.specs.Stages.{Hears, HearsEarly, HearsSome, HearsSomeEarly}
 use Rattle.zio_nodes.specs.Nodes.{nodes}
 use Rattle.zio_nodes.specs.PartAts.{PartStands}
 use Rattle.zio_nodes.specs.declared.node.Node.{Node}

@@ -32,8 +32,8 @@ use Rattle.zio_stages.specs.declared.leaf.LeafWork.{LeafWork}
 use Rattle.zio_exchange.specs.declared.outcome.Outcome.TheVariants.{Stored}
 use Rattle.zio_stages.specs.declared.part_node.PartNode.{PartNode}
 use Rattle.zio_stages.specs.declared.write_io.WriteIo.{WriteIo}
-use Rattle.zio_turns.specs.Parts.{ended_in, ended_in_slot}
-use Rattle.zio_turns.specs.Stages.{Ends, GoesOn, Grows, Tells}
+use Rattle.zio_staged.specs.Parts.{ended_in, ended_in_slot}
+use Rattle.zio_staged.specs.Stages.{Ends, GoesOn, Grows, Tells}
 use Rattle.zio_nodes.specs.LeafAts.{IsLeafAt}
 use Rattle.zio_nodes.specs.Nodes.{gave_of, nodes}
 use Rattle.zio_nodes.specs.Told.{is_told}

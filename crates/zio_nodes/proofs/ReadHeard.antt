@@ -28,7 +28,7 @@ use Rattle.zio_stages.specs.declared.request_node.Own.TheVariants.{Claim as Clai
 use Rattle.zio_stages.specs.declared.request_node.RequestNode.{RequestNode}
 use Rattle.zio_stages.proofs.OutMoves.{read_idle}
 use Rattle.zio_stages.proofs.OwnReadLemmas.{body_over, not_awaited}
-use Rattle.zio_turns.specs.Stages.{heard_max}
+use Rattle.zio_staged.specs.Stages.{heard_max}
 use Rattle.zio_nodes.specs.Bounds.{leaf_share, pass_left, read_asks_max}
 use Rattle.zio_nodes.specs.OwnAts.{HasFewBodies, IsReadAtStage, MayReadOne}
 use Rattle.zio_nodes.specs.OwnBounds.{body_left, body_share, read_left, read_stages, reading_left, walk_left}

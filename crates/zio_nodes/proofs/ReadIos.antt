@@ -23,7 +23,7 @@ use Rattle.zio_stages.specs.declared.request_node.Own.{Own}
 use Rattle.zio_stages.specs.declared.request_node.Own.TheVariants.{Claim, Due, Found, Free, Over, Read, Stored, Write}
 use Rattle.zio_stages.specs.declared.request_node.RequestNode.{RequestNode}
 use Rattle.zio_trace.specs.Leaves.{LeafOp}
-use Rattle.zio_turns.specs.Stages.{Grows}
+use Rattle.zio_staged.specs.Stages.{Grows}
 use Rattle.zio_nodes.specs.Bounds.{read_asks_max}
 use Rattle.zio_nodes.specs.LeafAts.{IsLeafAt}
 use Rattle.zio_nodes.specs.Nodes.{gave_of, nodes}

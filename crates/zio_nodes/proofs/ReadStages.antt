@@ -13,7 +13,7 @@ use Rattle.zio_gang.specs.declared.tree.Tree.{Tree}
 use Rattle.zio_parts.specs.declared.tree_read.TreeStep.TheVariants.{Walk, Body, Wait, End}
 use Rattle.zio_parts.specs.declared.tree_read.Phase.{Phase}
 use Rattle.zio_parts.specs.declared.tree_read.Phase.TheVariants.{Unread, Out as WalkOut, Failed as WalkFailed, Found as BodiesFound}
-use Rattle.zio_turns.specs.Stages.{told_cost}
+use Rattle.zio_staged.specs.Stages.{told_cost}
 use Rattle.zio_stages.specs.ReadCounts.{HandsOutBody, HandsOutWalk, HasBegun, HasHandedAll, HasOneBody, HasWalkBegun, IsMoreToRead, IsUnread, AreHandedOut}
 use Rattle.zio_stages.specs.RequestKinds.{has_gang_stages, is_gang_tree}
 use Rattle.zio_stages.specs.RequestReads.{HasFound, IsAlone, IsReadWith, IsReadingWith, ReadsOn}

@@ -18,7 +18,7 @@ use Rattle.zio_stages.specs.Closings.{outcome_of}
 use Rattle.zio_stages.specs.KidTrees.{attempts_of}
 use Rattle.zio_stages.specs.RequestNodes.{IsClosedAs, IsRequestNode}
 use Rattle.zio_stages.specs.declared.request_node.RequestNode.{RequestNode}
-use Rattle.zio_turns.specs.Parts.{ended_by, ended_in, ended_in_slot}
+use Rattle.zio_staged.specs.Parts.{ended_by, ended_in, ended_in_slot}
 
 -- ---- its value
 

@@ -20,8 +20,8 @@ use Rattle.zio_stages.specs.OwnParts.{DoesThen, HandsTo, IsOwed}
 use Rattle.zio_stages.specs.RequestNodes.{Closes, IsRequestNode}
 use Rattle.zio_stages.specs.Sealed.{Outcome}
 use Rattle.zio_stages.specs.declared.request_node.RequestNode.{RequestNode}
-use Rattle.zio_turns.specs.Parts.{ended_in_slot}
-use Rattle.zio_turns.specs.Stages.{Ends, GoesOn, Grows, Tells, Waits}
+use Rattle.zio_staged.specs.Parts.{ended_in_slot}
+use Rattle.zio_staged.specs.Stages.{Ends, GoesOn, Grows, Tells, Waits}
 use Rattle.zio_nodes.specs.Nodes.{IsNode, StaysBare, StaysWith, gave_of, nodes, told_of}
 use Rattle.zio_nodes.specs.Told.{is_told}
 use Rattle.zio_nodes.specs.declared.node.Node.{Node}

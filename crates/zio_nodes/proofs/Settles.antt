@@ -3,7 +3,7 @@ use Rattle.std.proofs.Common.{◌≡◌, Result, Ok, Err, ap, sym, subst, ◌∙
 use Rattle.std.specs.Prelude.{IfErr, IfOk, OnErr, is_ok}
 use Rattle.zio_masks.specs.declared.stage.Stage.TheVariants.{Done}
 use Rattle.zio_nodes.specs.SealedMoves.{Move}
-use Rattle.zio_turns.specs.declared.staged.Move.TheVariants.{End, Grow, Leaf as ToLeaf, Next, Ready as Tell, Wait}
+use Rattle.zio_staged.specs.declared.staged.Move.TheVariants.{End, Grow, Leaf as ToLeaf, Next, Ready as Tell, Wait}
 use Rattle.zio_nodes.specs.Nodes.{IsInPlace, moved}
 use Rattle.zio_nodes.specs.StageMoves.{IsLastMove, IsStageMove, IsStart, stage_of, stalls_at}
 use Rattle.zio_nodes.specs.declared.node.Node.{Node}

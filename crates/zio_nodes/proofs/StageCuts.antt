@@ -14,7 +14,7 @@ use Rattle.zio_stages.specs.ReadIos.{IsReadStep}
 use Rattle.zio_stages.specs.declared.read_io.ReadIo.{ReadIo}
 use Rattle.zio_stages.specs.declared.request_node.Own.{Own}
 use Rattle.zio_stages.specs.declared.write_io.IoStep.TheVariants.{End}
-use Rattle.zio_turns.specs.Stages.{told_cost}
+use Rattle.zio_staged.specs.Stages.{told_cost}
 use Rattle.zio_nodes.specs.Bounds.{copies_stages, leaf_share, pass_left, read_asks_max}
 use Rattle.zio_nodes.specs.CopiesAts.{ReadStands}
 use Rattle.zio_nodes.specs.OwnAts.{HasReadAll, IsReadAtStage}

@@ -18,9 +18,9 @@ use Rattle.zio_trace.specs.Keys.{bit}
 use Rattle.zio_frames.specs.Frames.{Child, Stack}
 use Rattle.zio_exchange.specs.SpaceCalls.{SpaceCall}
 use Rattle.zio_stages.specs.NodeChildren.{is_awaited, is_owing}
-use Rattle.zio_turns.specs.Entries.{count_owing, owing}
+use Rattle.zio_staged.specs.Entries.{count_owing, owing}
 use Rattle.zio_nodes.specs.SealedMoves.{Move}
-use Rattle.zio_turns.specs.declared.staged.Move.TheVariants.{End, Grow, Leaf as ToLeaf, Next, Ready as Tell, Wait}
+use Rattle.zio_staged.specs.declared.staged.Move.TheVariants.{End, Grow, Leaf as ToLeaf, Next, Ready as Tell, Wait}
 use Rattle.std.specs.Prelude.{IfOk}
 use Rattle.zio_nodes.specs.Nodes.{IsNode, MovesWith, moved}
 use Rattle.zio_nodes.specs.declared.turn.Turn.{Turn}

@@ -26,7 +26,7 @@ use Rattle.zio_stages.specs.declared.request_node.OwnFound.{OwnFound}
 use Rattle.zio_stages.specs.declared.request_node.RequestNode.{RequestNode}
 use Rattle.zio_stages.specs.declared.stored_block.StoredBlock.{StoredBlock}
 use Rattle.zio_stages.proofs.KidAsking.{kids_full}
-use Rattle.zio_turns.specs.Parts.{ended_in_slot}
+use Rattle.zio_staged.specs.Parts.{ended_in_slot}
 use Rattle.zio_nodes.specs.RequestAts.{IsGivingBack, gave_by}
 use Rattle.zio_nodes.proofs.NullLemmas.{freed_nothing}
 use Rattle.zio_nodes.proofs.PartLemmas.{none_ended}

@@ -16,7 +16,7 @@ use Rattle.zio_stages.specs.RequestNodes.{IsOwnOver, IsRequestNode}
 use Rattle.zio_stages.specs.Tops.{AreTops}
 use Rattle.zio_stages.specs.declared.request_node.Own.TheVariants.{Due}
 use Rattle.zio_stages.specs.declared.request_node.RequestNode.{RequestNode}
-use Rattle.zio_turns.specs.Stages.{GoesOn}
+use Rattle.zio_staged.specs.Stages.{GoesOn}
 use Rattle.zio_nodes.specs.Nodes.{gave_of, nodes}
 use Rattle.zio_nodes.specs.RequestAts.{IsRequestAtOver, IsRequestOver, freed_so_far, gave_by}
 use Rattle.zio_nodes.specs.RequestBounds.{own_max, request_share}

@@ -8,9 +8,9 @@ use Rattle.zio_gang.specs.Attempts.{Terms}
 use Rattle.zio_frames.specs.Frames.{Stack}
 use Rattle.zio_exchange.specs.SpaceCalls.{SpaceCall}
 use Rattle.zio_stages.specs.RequestNodes.{IsRequestNode}
-use Rattle.zio_turns.specs.Stages.{IsNow, Lessens}
+use Rattle.zio_staged.specs.Stages.{IsNow, Lessens}
 use Rattle.zio_nodes.specs.SealedMoves.{Move}
-use Rattle.zio_turns.specs.declared.staged.Move.TheVariants.{End, Grow, Leaf as ToLeaf, Next, Ready, Wait}
+use Rattle.zio_staged.specs.declared.staged.Move.TheVariants.{End, Grow, Leaf as ToLeaf, Next, Ready, Wait}
 use Rattle.zio_nodes.specs.Nodes.{MovesWith, StaysWith, gave_of, left_of, nodes}
 use Rattle.zio_nodes.specs.RequestBounds.{request_left}
 use Rattle.zio_nodes.specs.StageMoves.{CallsFit, IsEndMove, IsLastMove}

@@ -49,7 +49,7 @@ use Rattle.zio_stages.proofs.PartOwed.{own_out}
 use Rattle.zio_stages.proofs.PartSeats.{own_seat}
 use Rattle.zio_stages.proofs.RequestMembers.{own_place}
 use Rattle.zio_stages.proofs.RequestWriteLemmas.{front_in, part_at, write_in}
-use Rattle.zio_turns.specs.Stages.{Hears, HearsSome, HearsSomeEarly, heard_max}
+use Rattle.zio_staged.specs.Stages.{Hears, HearsSome, HearsSomeEarly, heard_max}
 use Rattle.zio_nodes.specs.Bounds.{due_left, leaf_share, member_share, members_max, pass_left, write_asks_max}
 use Rattle.zio_nodes.specs.Nodes.{nodes}
 use Rattle.zio_nodes.specs.RequestAts.{AreOutBehind, RequestStands, StandsAt, StandsBy, WriteStands, gave_by}

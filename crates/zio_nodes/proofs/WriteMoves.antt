@@ -25,7 +25,7 @@ use Rattle.zio_stages.specs.declared.part_node.PartNode.{PartNode}
 use Rattle.zio_stages.specs.declared.request_node.Own.{Own}
 use Rattle.zio_stages.specs.declared.request_node.Own.TheVariants.{Claim as ClaimOwn, Due, Found, Free as FreeOwn, Over, Read as ReadOwn, Stored, Write as WriteOwn}
 use Rattle.zio_stages.specs.declared.request_node.RequestNode.{RequestNode}
-use Rattle.zio_turns.specs.Stages.{Grows}
+use Rattle.zio_staged.specs.Stages.{Grows}
 use Rattle.zio_nodes.specs.Bounds.{due_left, leaf_max, part_max, pass_left}
 use Rattle.zio_nodes.specs.LeafAts.{IsLeafAt}
 use Rattle.zio_nodes.specs.Nodes.{gave_of, nodes}

@@ -1,3 +1,4 @@
+pub mod Aheads
 pub mod Bounds
 pub mod BoxMoves
 pub mod CopiesAts

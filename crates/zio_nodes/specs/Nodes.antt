@@ -8,10 +8,10 @@ use Rattle.zio_exchange.specs.SpaceCalls.{SpaceCall}
 use Rattle.zio_stages.specs.HeadsNodes.{IsHeadsNode}
 use Rattle.zio_stages.specs.PartNodes.{IsPartNode}
 use Rattle.zio_stages.specs.RequestNodes.{IsRequestNode}
-use Rattle.zio_turns.specs.Parts.{Nodes}
-use Rattle.zio_turns.specs.Stages.{GoesOn, IsMove, IsNow}
+use Rattle.zio_staged.specs.Parts.{Nodes}
+use Rattle.zio_staged.specs.Stages.{GoesOn, IsMove, IsNow}
 use Rattle.zio_nodes.specs.SealedMoves.{Move}
-use Rattle.zio_turns.specs.declared.staged.Move.TheVariants.{End, Grow, Leaf as ToLeaf, Next, Ready, Wait}
+use Rattle.zio_staged.specs.declared.staged.Move.TheVariants.{End, Grow, Leaf as ToLeaf, Next, Ready, Wait}
 use Rattle.zio_nodes.specs.Bounds.{copies_left, heads_left, leaf_left, part_left}
 use Rattle.zio_nodes.specs.CopiesAts.{IsCopiesAt, IsCopiesAtOver}
 use Rattle.zio_nodes.specs.HeadsAts.{IsHeadsAtOver}

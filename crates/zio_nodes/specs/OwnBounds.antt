@@ -13,7 +13,7 @@ use Rattle.zio_stages.specs.declared.own_free.FreeWalk.TheVariants.{Due as FreeD
 use Rattle.zio_stages.specs.declared.own_read.BodyIo.{BodyIo}
 use Rattle.zio_stages.specs.declared.request_node.Own.{Own}
 use Rattle.zio_stages.specs.declared.request_node.Own.TheVariants.{Claim, Due, Found, Free, Over, Read, Stored, Write}
-use Rattle.zio_turns.specs.Stages.{told_cost}
+use Rattle.zio_staged.specs.Stages.{told_cost}
 use Rattle.zio_nodes.specs.Bounds.{copies_max, due_left, leaf_share, pass_left, read_asks_max, walk_max}
 use Rattle.zio_nodes.specs.ReadBounds.{bodies_max}
 use Rattle.zio_nodes.specs.declared.request_at.RequestAt.{RequestAt}

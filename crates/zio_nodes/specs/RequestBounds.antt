@@ -5,7 +5,7 @@ use Rattle.zio_masks.specs.declared.stage.Stage.TheVariants.{Start, Ready, Done}
 use Rattle.zio_script.specs.declared.script.Work.{Work}
 use Rattle.zio_script.specs.declared.script.Work.TheVariants.{Null, Read, Write, Free, Claim}
 use Rattle.zio_exchange.specs.Wholes.{joined}
-use Rattle.zio_turns.specs.Stages.{told_cost}
+use Rattle.zio_staged.specs.Stages.{told_cost}
 use Rattle.zio_nodes.specs.OwnBounds.{claim_left, claim_max, free_left, free_max, read_left, read_max}
 use Rattle.zio_nodes.specs.WriteBounds.{request_write_left, write_max}
 use Rattle.zio_nodes.specs.declared.request_at.RequestAt.{RequestAt}

@@ -1,6 +1,6 @@
 -- The moves of this crate's nodes, whose requests finish under the stages' seal.
 use Rattle.zio_stages.specs.declared.closing.Seal.{Seal}
-use Rattle.zio_turns.specs.declared.staged.Move.{Move as MoveUnder}
+use Rattle.zio_staged.specs.declared.staged.Move.{Move as MoveUnder}
 
 abbrev pub Move : Type 0 → Type 0
 Move N = MoveUnder N Seal

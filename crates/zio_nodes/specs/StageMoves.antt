@@ -35,7 +35,7 @@ use Rattle.zio_stages.specs.declared.own_read.BodyIo.{BodyIo}
 use Rattle.zio_stages.specs.declared.request_node.Own.{Own}
 use Rattle.zio_stages.specs.declared.request_node.Own.TheVariants.{Claim, Due, Found, Free, Over, Read as ReadOwn, Stored, Write as WriteOwn}
 use Rattle.zio_nodes.specs.SealedMoves.{Move}
-use Rattle.zio_turns.specs.declared.staged.Move.TheVariants.{End, Grow, Leaf as ToLeaf, Next, Ready as Tell, Wait}
+use Rattle.zio_staged.specs.declared.staged.Move.TheVariants.{End, Grow, Leaf as ToLeaf, Next, Ready as Tell, Wait}
 use Rattle.zio_nodes.specs.NodeNames.{handed_by, unfinished_at}
 use Rattle.zio_nodes.specs.RequestAts.{takes}
 use Rattle.zio_nodes.specs.declared.node.Node.{Node}

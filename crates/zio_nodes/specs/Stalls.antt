@@ -18,9 +18,9 @@ use Rattle.zio_stages.specs.declared.own_read.BodyIo.{BodyIo}
 use Rattle.zio_stages.specs.declared.request_node.Own.{Own}
 use Rattle.zio_stages.specs.declared.request_node.Own.TheVariants.{Claim as ClaimOwn, Due, Found, Free as FreeOwn, Over, Read as ReadOwn, Stored, Write as WriteOwn}
 use Rattle.zio_stages.specs.declared.write_io.WriteIo.{WriteIo}
-use Rattle.zio_turns.specs.Entries.{count_owing}
+use Rattle.zio_staged.specs.Entries.{count_owing}
 use Rattle.zio_nodes.specs.SealedMoves.{Move}
-use Rattle.zio_turns.specs.declared.staged.Move.TheVariants.{End, Grow, Next, Ready as Tell}
+use Rattle.zio_staged.specs.declared.staged.Move.TheVariants.{End, Grow, Next, Ready as Tell}
 use Rattle.zio_nodes.specs.StageMoves.{stage_of, stalls_at}
 use Rattle.zio_nodes.specs.declared.node.Node.{Node}
 use Rattle.zio_nodes.specs.declared.node.Node.TheVariants.{Copies, Empty, Heads, Leaf, Part, Request, Tree}

@@ -5,7 +5,7 @@ use Rattle.zio_masks.specs.declared.stage.Stage.TheVariants.{WriteBpInit, IssueA
 use Rattle.zio_stages.specs.RequestCounts.{asked_of, members_of, path_of, second_of}
 use Rattle.zio_stages.specs.RequestKinds.{is_stored}
 use Rattle.zio_stages.specs.declared.request_node.Own.{Own}
-use Rattle.zio_turns.specs.Stages.{told_cost}
+use Rattle.zio_staged.specs.Stages.{told_cost}
 use Rattle.zio_nodes.specs.Bounds.{due_left, leaf_share, member_share, members_max, pass_left, write_asks_max}
 use Rattle.zio_nodes.specs.declared.request_at.RequestAt.{RequestAt}
 

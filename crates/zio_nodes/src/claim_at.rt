@@ -6,7 +6,7 @@
 ghost use Rattle.std.specs.Prelude.{◌≡◌, ◌≢◌, ◌⊎◌, IfErr, IfOk, List as Seq, OnErr, false};
 ghost use Rattle.zio_types.specs.declared.place.Top.{Top as SeenTop};
 ghost use Rattle.zio_script.specs.Requests.{kind_of};
-ghost use Rattle.zio_turns.specs.Stages.{EachIn, Lessens, MayGoOn};
+ghost use Rattle.zio_staged.specs.Stages.{EachIn, Lessens, MayGoOn};
 ghost use Rattle.zio_stages.specs.RequestClaims.{IsClaimWith};
 ghost use Rattle.zio_stages.specs.RequestKinds.{has_gang_stages};
 ghost use Rattle.zio_stages.specs.declared.request_node.Own.{Own};
@@ -23,8 +23,8 @@ use crate::turn::{Turn, new_room};
 use std::alloc::Global;
 use zio_exchange::Services;
 use zio_masks::{CLAIM, INTERLOCK, Stage, next, with_gang};
+use zio_staged::Move;
 use zio_stages::{DoneStep, Seal};
-use zio_turns::Move;
 use zio_types::{ChildKind, Kind, NoMemory, Phase, Top};
 
 impl RequestAt {

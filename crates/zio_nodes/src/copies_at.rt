@@ -8,7 +8,7 @@ ghost use Rattle.zio_trace.specs.Tasks.{Task, Value};
 ghost use Rattle.zio_frames.specs.Frames.{Child, Stack, fresh_stack};
 ghost use Rattle.zio_frames.specs.Moves.{heard_of};
 ghost use Rattle.zio_stages.specs.CopiesNodes.{IsCopiesNode, IsCopiesOver};
-ghost use Rattle.zio_turns.specs.Stages.{EachIn, Hears, HearsSome, Lessens, MayGoOn, heard_max};
+ghost use Rattle.zio_staged.specs.Stages.{EachIn, Hears, HearsSome, Lessens, MayGoOn, heard_max};
 ghost use Rattle.zio_nodes.specs.Bounds.{copies_left, copies_max};
 ghost use Rattle.zio_nodes.specs.CopiesAts.{IsCopiesAt, IsCopiesAtOver};
 ghost use Rattle.zio_nodes.specs.Passes.{IsInPassOf, KeepsPassAt};
@@ -21,9 +21,10 @@ use crate::node::Node;
 use crate::read_io_at::behind_assess;
 use crate::turn::{Turn, new_room};
 use std::alloc::Global;
+use zio_exchange::unsummed;
 use zio_masks::{READ, Stage, next};
+use zio_staged::Move;
 use zio_stages::{CopiesNode, Family, IoNext, Outcome, Seal, reads_tell_no_pointer};
-use zio_turns::Move;
 use zio_types::{ChildKind, NoMemory, Phase, Top};
 
 /// The read of a block's copies at a stage of its pipeline.
@@ -247,7 +248,7 @@ impl CopiesAt {
         ensures left { Lessens left_of (Node.Copies self) result }
     {
         let CopiesAt { node, .. } = self;
-        Move::End(Outcome::Found(node.into_found(tops)))
+        Move::End(Outcome::Found(unsummed(node.into_found(tops))))
     }
 
     /// A child ended: an operation on a leaf, with the bytes of its read, with none of a repair, or with an error.

@@ -7,7 +7,7 @@ ghost use Rattle.zio_types.specs.declared.place.Top.{Top as SeenTop};
 ghost use Rattle.zio_children.specs.RequestKids.{is_ended};
 ghost use Rattle.zio_stages.specs.OwnParts.{IsNoWrite};
 ghost use Rattle.zio_stages.specs.RequestReads.{HasFound};
-ghost use Rattle.zio_turns.specs.Stages.{EachIn, Lessens, MayGoOn, told_cost};
+ghost use Rattle.zio_staged.specs.Stages.{EachIn, Lessens, MayGoOn, told_cost};
 ghost use Rattle.zio_nodes.specs.StageMoves.{IsLastMove, IsNextOf, IsStageMove, takes_stage};
 ghost use Rattle.zio_nodes.specs.Nodes.{IsNodeDue, IsNodeOver, IsTreeOver, MovesBare, StaysBare, left_of, moved};
 ghost use Rattle.zio_nodes.specs.RequestAts.{IsRequestAtOver};
@@ -18,8 +18,8 @@ use crate::request_at::RequestAt;
 use crate::turn::Turn;
 use std::alloc::Global;
 use zio_masks::Stage;
+use zio_staged::Move;
 use zio_stages::{NodeBack, Seal, what_is_no_write_has_no_pointer};
-use zio_turns::Move;
 
 impl RequestAt {
     /// Tells that it has no pointer, and goes on to this stage.

@@ -8,7 +8,7 @@ ghost use Rattle.zio_trace.specs.Tasks.{Task, Value};
 ghost use Rattle.zio_frames.specs.Frames.{Child, Stack};
 ghost use Rattle.zio_frames.specs.Moves.{heard_early, heard_of};
 ghost use Rattle.zio_stages.specs.HeadsNodes.{IsHeadsNode, IsHeadsOver};
-ghost use Rattle.zio_turns.specs.Stages.{EachIn, Hears, HearsEarly, HearsSome, HearsSomeEarly, Lessens, MayGoOn};
+ghost use Rattle.zio_staged.specs.Stages.{EachIn, Hears, HearsEarly, HearsSome, HearsSomeEarly, Lessens, MayGoOn};
 ghost use Rattle.zio_nodes.specs.Bounds.{heads_left, walk_max};
 ghost use Rattle.zio_nodes.specs.HeadsAts.{IsHeadsAtOver};
 ghost use Rattle.zio_nodes.specs.Stalls.{LeavesGang};
@@ -22,8 +22,8 @@ use crate::stall::gang_stall;
 use crate::turn::{Turn, new_room};
 use std::alloc::Global;
 use zio_masks::{INTERLOCK, Stage, next, with_gang};
+use zio_staged::Move;
 use zio_stages::{Family, HeadsBack, HeadsNode, Outcome, Seal, WalkStage, reads_tell_no_pointer};
-use zio_turns::Move;
 use zio_types::{ChildKind, NoMemory, Phase, Top};
 
 /// The walk over headers at a stage of its pipeline.

@@ -8,7 +8,7 @@ ghost use Rattle.zio_gang.specs.Attempts.{Terms};
 ghost use Rattle.zio_trace.specs.Tasks.{Find};
 ghost use Rattle.zio_frames.specs.Frames.{Child, Stack};
 ghost use Rattle.zio_stages.specs.Sealed.{Outcome as SeenOutcome};
-ghost use Rattle.zio_turns.specs.Stages.{AreItsOwn, HearsEarly, HearsSome};
+ghost use Rattle.zio_staged.specs.Stages.{AreItsOwn, HearsEarly, HearsSome};
 ghost use Rattle.zio_nodes.specs.Nodes.{IsNode, IsNodeOver, gave_of, nodes};
 ghost use Rattle.zio_nodes.specs.Stalls.{leaf_room, leaves_out};
 ghost use Rattle.zio_nodes.specs.declared.copies_at.CopiesAt.{CopiesAt};

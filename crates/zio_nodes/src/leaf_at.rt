@@ -1,6 +1,6 @@
 //! An operation on a leaf, from stage to stage: it is handed to its leaf, and ends with what that answers.
 
-ghost use Rattle.std.specs.Prelude.{◌≡◌, ◌≢◌, ◌≤◌, List as Seq, false};
+ghost use Rattle.std.specs.Prelude.{◌≡◌, ◌≢◌, ◌<◌, ◌≤◌, IfSome, List as Seq, false};
 ghost use Rattle.zio_types.specs.declared.place.Top.{Top as SeenTop};
 ghost use Rattle.zio_gang.specs.Attempts.{Terms};
 ghost use Rattle.zio_trace.specs.Leaves.{Answer, LeafOp};
@@ -8,18 +8,21 @@ ghost use Rattle.zio_trace.specs.Tasks.{Got, Leaf};
 ghost use Rattle.zio_frames.specs.Frames.{fresh_frame, fresh_stack};
 ghost use Rattle.zio_frames.specs.Moves.{done_at_once};
 ghost use Rattle.zio_stages.specs.LeafWorks.{IsDue, IsLeafWork};
-ghost use Rattle.zio_turns.specs.Stages.{EachIn, Lessens, MayGoOn, ShowsAnswer};
+ghost use Rattle.zio_staged.specs.declared.staged.Move.TheVariants.{Next};
+ghost use Rattle.zio_staged.specs.Stages.{EachIn, Lessens, MayGoOn, ShowsAnswer};
+ghost use Rattle.zio_nodes.specs.Aheads.{FitsLeaf};
 ghost use Rattle.zio_nodes.specs.Bounds.{leaf_left, leaf_max};
 ghost use Rattle.zio_nodes.specs.LeafAts.{IsLeafAt, LeafStands};
 ghost use Rattle.zio_nodes.specs.StageMoves.{IsLastMove, IsStageMove};
 ghost use Rattle.zio_nodes.specs.Nodes.{IsNodeDue, IsNodeOver, IsTreeOver, MovesBare, left_of, moved};
 ghost use Rattle.zio_nodes.specs.Told.{is_told};
 
+use crate::ahead::Ahead;
 use crate::node::Node;
 use crate::turn::Turn;
 use zio_masks::{Stage, VDEV_CHILD, next};
+use zio_staged::Move;
 use zio_stages::{LeafWork, Outcome, Seal};
-use zio_turns::Move;
 use zio_types::{Bytes, Errno, List};
 
 /// An operation on a leaf at a stage of its pipeline.
@@ -92,7 +95,7 @@ impl LeafAt {
         Turn::Leaf(op, leaf, bytes)
     }
 
-    /// Its leaf answered, so it goes on.
+    /// Its leaf answered, so it goes on. Of what was read the checksum is taken, if one is wanted.
     fn vdev_io_done(&mut self) -> Turn
         requires stands { LeafStands self.old.stage self.old.is_out self.old.work }
         requires due { self.old.is_out ≡ false }
@@ -104,8 +107,46 @@ impl LeafAt {
         ensures left { Lessens left_of (Node.Leaf self.old) (moved (Node.Leaf self.new) result) }
         ensures stages { IsStageMove (Node.Leaf self.old) (moved (Node.Leaf self.new) result) }
     {
+        if let Some(words) = self.work.sum_ahead() {
+            self.work.set_sum(words);
+        }
         self.stage = next(Stage::VdevIoDone, VDEV_CHILD);
         Turn::Next
+    }
+
+    /// Whether its leaf answered with so many bytes or more, whose checksum is wanted.
+    pub(crate) fn has_to_sum(&self, len: usize) -> bool {
+        self.stage == Stage::VdevIoDone && self.work.len_to_sum() >= len
+    }
+
+    /// The checksum of what was read, once its leaf answered, if one is wanted.
+    pub(crate) fn ahead(&self) -> Option<Ahead>
+        ensures { IfSome result (FitsLeaf self.now) }
+    {
+        let Stage::VdevIoDone = self.stage else {
+            return None;
+        };
+        if self.is_out {
+            return None;
+        }
+        let words = self.work.sum_ahead()?;
+        Some(Ahead::OfRead(words))
+    }
+
+    /// Goes on after its leaf answered, with the checksum that was taken.
+    pub(crate) fn go_on(&mut self, ahead: Ahead)
+        requires fits { FitsLeaf self.old ahead }
+        ensures moves { (tops : Seq SeenTop) → MovesBare tops (Node.Leaf self.old) (Next (Node.Leaf self.new)) }
+        ensures over { (tops : Seq SeenTop) → IsNodeOver tops (Node.Leaf self.new) }
+        ensures due { IsNodeDue (Node.Leaf self.new) }
+        ensures left { left_of (Node.Leaf self.new) < left_of (Node.Leaf self.old) }
+        ensures stages { IsStageMove (Node.Leaf self.old) (Next (Node.Leaf self.new)) }
+    {
+        let Ahead::OfRead(words) = ahead else {
+            unreachable!()
+        };
+        self.work.set_sum(words);
+        self.stage = next(Stage::VdevIoDone, VDEV_CHILD);
     }
 
     /// Whoever asked for the operation decides what its error means, so it goes on with it.

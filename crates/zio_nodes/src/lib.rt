@@ -1,10 +1,11 @@
 //! The nodes of a round, each at a stage of its pipeline: one call runs the stage where a node stands.
 //!
-//! It stands on `zio_stages`, which has the work of the stages, and on `zio_turns`, whose engine runs nodes and says
-//! what a stage may come to. Read `Node` first, then `run_stage` of each kind. Contracts see how far a node is, whether
+//! It stands on `zio_stages`, which has the work of the stages, and on `zio_staged`, which says what a node is to the
+//! engine that runs it. Read `Node` first, then `run_stage` of each kind. Contracts see how far a node is, whether
 //! it told its pointer, and how often it runs at most (`specs/Nodes`).
 #![tactic(auto)]
 
+mod ahead;
 mod claim_at;
 mod copies_at;
 mod found_at;
@@ -28,6 +29,7 @@ mod turn;
 mod write_at;
 mod write_hear;
 
+pub use ahead::Ahead;
 pub use copies_at::CopiesAt;
 pub use heads_at::HeadsAt;
 pub use laws::{

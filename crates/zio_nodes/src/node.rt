@@ -13,7 +13,7 @@ ghost use Rattle.zio_frames.specs.Moves.{done_at_once, heard_early, heard_of};
 ghost use Rattle.zio_exchange.specs.Wholes.{IsTreeOf};
 ghost use Rattle.zio_stages.specs.NodeChildren.{is_awaited};
 ghost use Rattle.zio_exchange.specs.declared.outcome.Outcome.{Outcome as SeenOutcome};
-ghost use Rattle.zio_turns.specs.Stages.{
+ghost use Rattle.zio_staged.specs.Stages.{
   EachIn,
   Hears,
   HearsEarly,
@@ -62,8 +62,8 @@ use zio_blkptr::Bp;
 use zio_exchange::{Services, Whole};
 use zio_masks::Stage;
 use zio_script::Failmode;
+use zio_staged::Move;
 use zio_stages::{Finished, Outcome, Seal, request_label};
-use zio_turns::Move;
 use zio_types::{Bytes, ChildKind, Errno, Kind, NoMemory, Phase, ReqNo, Top};
 
 /// A node of a round.

@@ -1,11 +1,12 @@
 //! A node in a box, as the engine runs it: its stages change it in its place.
 
 ghost use Rattle.std.specs.Prelude.{◌≡◌};
-ghost use Rattle.zio_turns.specs.Moves.{moved as moved_to};
+ghost use Rattle.zio_staged.specs.Moves.{moved as moved_to};
 ghost use Rattle.zio_nodes.specs.BoxMoves.{unboxed};
 ghost use Rattle.zio_nodes.specs.Nodes.{moved};
 ghost use Rattle.zio_nodes.specs.declared.node_box.NodeBox.{NodeBox as SeenBox};
 
+use crate::ahead::Ahead;
 use crate::laws::{no_node_asks_for_places, nodes_give_their_own};
 use crate::node::Node;
 use crate::turn::{Turn, new_room};
@@ -13,8 +14,8 @@ use std::alloc::Global;
 use zio_blkptr::Bp;
 use zio_exchange::{Services, Whole, WholeBack};
 use zio_script::Failmode;
+use zio_staged::Staged;
 use zio_stages::{Finished, Outcome, Seal};
-use zio_turns::Staged;
 use zio_types::{Bytes, Errno, NoMemory, Top};
 
 /// A node in a box.
@@ -23,7 +24,7 @@ pub struct NodeBox {
     node: Box<Node>,
 }
 
-impl zio_turns::NodeFacts for NodeBox {
+impl zio_staged::NodeFacts for NodeBox {
     ghost use Rattle.zio_nodes.specs.Nodes.{boxed_nodes};
 
     ghost nodes = { boxed_nodes };
@@ -36,17 +37,22 @@ impl Staged for NodeBox {
     ghost use Rattle.zio_frames.specs.Frames.{Child, Stack};
     ghost use Rattle.zio_frames.specs.Moves.{heard_of};
     ghost use Rattle.zio_exchange.specs.declared.outcome.Outcome.{Outcome as SeenOutcome};
-    ghost use Rattle.zio_turns.specs.Stages.{Hears, HearsSome, OutcomeIn, heard_max};
+    ghost use Rattle.zio_staged.specs.Stages.{Hears, HearsSome, OutcomeIn, heard_max};
+    ghost use Rattle.zio_nodes.specs.Aheads.{FitsBox};
     ghost use Rattle.zio_nodes.specs.BoxMoves.{IsBoxMove};
     ghost use Rattle.zio_nodes.specs.Nodes.{IsBoxOver, IsTreeOver, boxed_nodes};
 
     type Seal = Seal;
+
+    type Ahead = Ahead;
 
     ghost over = { IsBoxOver };
 
     ghost leads = { IsBoxMove };
 
     ghost tree_over = { IsTreeOver };
+
+    ghost fits = { FitsBox };
 
     fn start(
         alloc: Global,
@@ -66,9 +72,21 @@ impl Staged for NodeBox {
         &mut self,
         alloc: Global,
         services: &mut S,
-    ) -> Result<zio_turns::Turn<NodeBox, Seal>, NoMemory> {
+    ) -> Result<zio_staged::Turn<NodeBox, Seal>, NoMemory> {
         let turn = self.node.run_stage(alloc, services)?;
         Ok(boxed(turn))
+    }
+
+    fn is_heavy(&self) -> bool {
+        self.node.is_heavy()
+    }
+
+    fn ahead(&self, alloc: Global, _tops: &[Top]) -> Option<Ahead> {
+        self.node.ahead(alloc)
+    }
+
+    fn go_on(&mut self, ahead: Ahead) {
+        self.node.go_on(ahead);
     }
 
     fn arrive_ready(&mut self, child: usize, pointer: Option<Bp>) {
@@ -115,15 +133,15 @@ impl Staged for NodeBox {
 }
 
 /// The same of a node in a box, whose child is in one too.
-fn boxed(turn: Turn) -> zio_turns::Turn<NodeBox, Seal>
+fn boxed(turn: Turn) -> zio_staged::Turn<NodeBox, Seal>
     ensures { (x : SeenBox) → unboxed (moved_to x result) ≡ moved x.node.value turn }
 {
     match turn {
-        Turn::Next => zio_turns::Turn::Next,
-        Turn::Wait(kind, phase) => zio_turns::Turn::Wait(kind, phase),
-        Turn::Grow(node, kind) => zio_turns::Turn::Grow(NodeBox { node }, kind),
-        Turn::Leaf(op, leaf, bytes) => zio_turns::Turn::Leaf(op, leaf, bytes),
-        Turn::Ready(pointer) => zio_turns::Turn::Ready(pointer),
-        Turn::End(outcome) => zio_turns::Turn::End(outcome),
+        Turn::Next => zio_staged::Turn::Next,
+        Turn::Wait(kind, phase) => zio_staged::Turn::Wait(kind, phase),
+        Turn::Grow(node, kind) => zio_staged::Turn::Grow(NodeBox { node }, kind),
+        Turn::Leaf(op, leaf, bytes) => zio_staged::Turn::Leaf(op, leaf, bytes),
+        Turn::Ready(pointer) => zio_staged::Turn::Ready(pointer),
+        Turn::End(outcome) => zio_staged::Turn::End(outcome),
     }
 }

@@ -3,7 +3,7 @@
 ghost use Rattle.std.specs.Prelude.{◌≡◌, IfErr, IfOk, List as Seq, OnErr};
 ghost use Rattle.zio_types.specs.declared.place.Top.{Top as SeenTop};
 ghost use Rattle.zio_script.specs.Requests.{kind_of};
-ghost use Rattle.zio_turns.specs.Stages.{EachIn, Lessens, MayGoOn};
+ghost use Rattle.zio_staged.specs.Stages.{EachIn, Lessens, MayGoOn};
 ghost use Rattle.zio_nodes.specs.StageMoves.{IsLastMove, IsStageMove};
 ghost use Rattle.zio_nodes.specs.Nodes.{IsNodeDue, IsNodeOver, IsTreeOver, MovesBare, StaysBare, left_of, moved};
 ghost use Rattle.zio_nodes.specs.RequestAts.{IsRequestAtOver};
@@ -13,8 +13,8 @@ use crate::request_at::RequestAt;
 use crate::turn::Turn;
 use std::alloc::Global;
 use zio_masks::{NULL, Stage, next};
+use zio_staged::Move;
 use zio_stages::{DoneStep, NodeBack, Seal, what_is_no_write_has_no_pointer};
-use zio_turns::Move;
 use zio_types::{Kind, Phase};
 
 impl RequestAt {

@@ -12,7 +12,7 @@ ghost use Rattle.zio_frames.specs.Frames.{Child, Stack};
 ghost use Rattle.zio_frames.specs.Moves.{heard_early, heard_of};
 ghost use Rattle.zio_stages.specs.RequestHearings.{HearsEarlyOf};
 ghost use Rattle.zio_stages.specs.RequestNodes.{IsRequestNode};
-ghost use Rattle.zio_turns.specs.Stages.{Hears, HearsEarly, HearsSome, heard_max};
+ghost use Rattle.zio_staged.specs.Stages.{Hears, HearsEarly, HearsSome, heard_max};
 ghost use Rattle.zio_nodes.specs.Nodes.{gave_of, left_of, nodes};
 ghost use Rattle.zio_nodes.specs.Passes.{IsInPassOf};
 ghost use Rattle.zio_nodes.specs.RequestAts.{IsRequestAtOver};
@@ -20,6 +20,7 @@ ghost use Rattle.zio_nodes.specs.RequestHears.{IsOwnOutcome};
 
 use crate::node::Node;
 use crate::request_at::RequestAt;
+use zio_exchange::into_found;
 use zio_stages::{Outcome, bodies_of_a_walk_lie_on_the_tops, other_children_show_own_work};
 use zio_types::{ChildKind, Kind, Top};
 
@@ -105,7 +106,7 @@ impl RequestAt {
                 }
                 ChildKind::Gang => {
                     let n = self.node.own_number(child);
-                    self.node.arrive_body(tops, child, n, found);
+                    self.node.arrive_body(tops, child, n, into_found(found));
                 }
                 ChildKind::Logical => unreachable!(),
             },

@@ -13,7 +13,7 @@ ghost use Rattle.zio_exchange.specs.SpaceCalls.{SpaceCall};
 ghost use Rattle.zio_stages.specs.PartNodes.{IsPartNode, IsPartNodeOver};
 ghost use Rattle.zio_stages.specs.PartWorks.{HaveUnits};
 ghost use Rattle.zio_stages.specs.Tops.{AreTops};
-ghost use Rattle.zio_turns.specs.Stages.{EachIn, GoesOn, Hears, HearsEarly, HearsSome, HearsSomeEarly, IsMove, IsNow, Lessens, MayGoOn, heard_max};
+ghost use Rattle.zio_staged.specs.Stages.{EachIn, GoesOn, Hears, HearsEarly, HearsSome, HearsSomeEarly, IsMove, IsNow, Lessens, MayGoOn, heard_max};
 ghost use Rattle.zio_nodes.specs.Bounds.{part_left, part_max};
 ghost use Rattle.zio_nodes.specs.Passes.{IsInPassOf, KeepsPassAt};
 ghost use Rattle.zio_nodes.specs.StageMoves.{IsStageMove};
@@ -25,10 +25,10 @@ use crate::node::Node;
 use crate::turn::Turn;
 use std::alloc::Global;
 use zio_blkptr::Bp;
-use zio_exchange::Services;
+use zio_exchange::{Services, Summed};
 use zio_masks::{Stage, WRITE, next};
 use zio_stages::{Outcome, PartNode};
-use zio_types::{Bytes, Errno, NoMemory, Top};
+use zio_types::{Errno, NoMemory, Top};
 
 /// The write of a gang's member at a stage of its pipeline.
 #[derive(Drop)]
@@ -170,7 +170,7 @@ impl PartAt {
 }
 
 /// The error of a leaf's answer, if it is one.
-fn error_of(found: &Result<Bytes, Errno>) -> Option<Errno>
+fn error_of(found: &Result<Summed, Errno>) -> Option<Errno>
     ensures { result ≡ seen_error_of found.now }
 {
     match found {

@@ -5,7 +5,7 @@ ghost use Rattle.zio_types.specs.declared.place.Top.{Top as SeenTop};
 ghost use Rattle.zio_gang.specs.Attempts.{Terms};
 ghost use Rattle.zio_frames.specs.Frames.{Stack};
 ghost use Rattle.zio_exchange.specs.SpaceCalls.{SpaceCall};
-ghost use Rattle.zio_turns.specs.Stages.{EachIn, GoesOn, IsMove, IsNow, Lessens, MayGoOn};
+ghost use Rattle.zio_staged.specs.Stages.{EachIn, GoesOn, IsMove, IsNow, Lessens, MayGoOn};
 ghost use Rattle.zio_nodes.specs.Passes.{KeepsPassAt};
 ghost use Rattle.zio_nodes.specs.StageMoves.{IsLastMove, IsStageMove};
 ghost use Rattle.zio_nodes.specs.Nodes.{IsNodeDue, IsNodeOver, IsTreeOver, MovesBare, MovesWith, StaysBare, StaysWith, left_of, moved};
@@ -18,8 +18,8 @@ use crate::turn::{Turn, new_room};
 use std::alloc::Global;
 use zio_exchange::Services;
 use zio_masks::{Stage, WRITE, next};
+use zio_staged::Move;
 use zio_stages::{Allocated, DoneStep, IoNext, Outcome, PartNodeBack, ReadyStep, Seal};
-use zio_turns::Move;
 use zio_types::{ChildKind, NoMemory, Phase, Top};
 
 impl PartAt {

@@ -6,7 +6,7 @@
 ghost use Rattle.std.specs.Prelude.{◌≡◌, ◌≢◌, IfErr, IfOk, List as Seq, OnErr, false, true};
 ghost use Rattle.zio_types.specs.declared.place.Top.{Top as SeenTop};
 ghost use Rattle.zio_script.specs.Requests.{kind_of};
-ghost use Rattle.zio_turns.specs.Stages.{EachIn, Lessens, MayGoOn};
+ghost use Rattle.zio_staged.specs.Stages.{EachIn, Lessens, MayGoOn};
 ghost use Rattle.zio_nodes.specs.Stalls.{LeavesGang};
 ghost use Rattle.zio_nodes.specs.Passes.{KeepsPassAt};
 ghost use Rattle.zio_nodes.specs.StageMoves.{IsLastMove, IsStageMove};
@@ -22,8 +22,8 @@ use crate::turn::{Turn, new_room};
 use std::alloc::Global;
 use zio_exchange::Services;
 use zio_masks::{INTERLOCK, READ, Stage, next, with_gang};
+use zio_staged::Move;
 use zio_stages::{BodyStage, ReadDone, Seal};
-use zio_turns::Move;
 use zio_types::{ChildKind, Kind, NoMemory, Phase, Top};
 
 impl RequestAt {

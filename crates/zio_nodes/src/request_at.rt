@@ -17,7 +17,7 @@ ghost use Rattle.zio_frames.specs.Moves.{heard_early, heard_of};
 ghost use Rattle.zio_stages.specs.RequestKinds.{has_gang_stages};
 ghost use Rattle.zio_stages.specs.RequestNodes.{IsRequestNode};
 ghost use Rattle.zio_exchange.specs.declared.outcome.Outcome.{Outcome as SeenOutcome};
-ghost use Rattle.zio_turns.specs.Stages.{
+ghost use Rattle.zio_staged.specs.Stages.{
   EachIn,
   Hears,
   HearsEarly,
@@ -53,8 +53,8 @@ use std::alloc::Global;
 use zio_blkptr::Bp;
 use zio_exchange::Services;
 use zio_masks::{CLAIM, FREE, NULL, Pipeline, READ, Stage, WRITE, next, with_gang};
+use zio_staged::Move;
 use zio_stages::{Finished, Outcome, RequestNode, Seal, Start};
-use zio_turns::Move;
 use zio_types::{ChildKind, Kind, NoMemory, Top};
 
 /// A request in an attempt at a stage of its pipeline.

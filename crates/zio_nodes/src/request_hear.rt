@@ -12,7 +12,7 @@ ghost use Rattle.zio_stages.specs.RequestHearings.{HearsEarlyOf};
 ghost use Rattle.zio_stages.specs.RequestNodes.{IsRequestNode};
 ghost use Rattle.zio_exchange.specs.declared.outcome.Outcome.{Outcome as SeenOutcome};
 ghost use Rattle.zio_stages.specs.declared.closing.Seal.{Seal};
-ghost use Rattle.zio_turns.specs.Stages.{Hears, HearsEarly, HearsSome};
+ghost use Rattle.zio_staged.specs.Stages.{Hears, HearsEarly, HearsSome};
 ghost use Rattle.zio_nodes.specs.Nodes.{IsTreeOver, gave_of, left_of, nodes};
 ghost use Rattle.zio_nodes.specs.Passes.{IsInPassOf};
 ghost use Rattle.zio_nodes.specs.RequestAts.{IsRequestAtOver};

@@ -6,7 +6,7 @@ ghost use Rattle.zio_types.specs.Machine.{same_kind};
 ghost use Rattle.zio_types.specs.declared.request.ChildKind.TheVariants.{Gang};
 ghost use Rattle.zio_types.specs.declared.request.Phase.TheVariants.{Done as IsDone};
 ghost use Rattle.zio_stages.specs.NodeChildren.{is_awaited};
-ghost use Rattle.zio_turns.specs.Entries.{count_owing};
+ghost use Rattle.zio_staged.specs.Entries.{count_owing};
 ghost use Rattle.zio_nodes.specs.StageMoves.{stalls_at};
 ghost use Rattle.zio_nodes.specs.Stalls.{MayRun};
 

@@ -7,7 +7,7 @@ ghost use Rattle.zio_trace.specs.Families.{Forest};
 ghost use Rattle.zio_trace.specs.Tasks.{Attempt};
 ghost use Rattle.zio_frames.specs.Frames.{fresh_stack};
 ghost use Rattle.zio_exchange.specs.Wholes.{IsTreeOf};
-ghost use Rattle.zio_turns.specs.Stages.{EachIn, Lessens, MayGoOn};
+ghost use Rattle.zio_staged.specs.Stages.{EachIn, Lessens, MayGoOn};
 ghost use Rattle.zio_nodes.specs.Nodes.{IsNodeDue, IsNodeOver, IsTreeOver, MovesBare, StaysBare, left_of};
 ghost use Rattle.zio_nodes.specs.StageMoves.{IsStart};
 ghost use Rattle.zio_nodes.specs.TreeAts.{IsTreeAt, IsTreeAtOver};
@@ -18,8 +18,8 @@ use std::alloc::Global;
 use zio_exchange::{Whole, WholeBack};
 use zio_masks::Stage;
 use zio_script::Failmode;
+use zio_staged::Move;
 use zio_stages::{RequestNode, Seal};
-use zio_turns::Move;
 
 /// A tree of requests, of whose attempt nothing is done. It is split only once it runs, so that it can be handed out
 /// where there is no memory.

@@ -11,7 +11,7 @@ ghost use Rattle.zio_frames.specs.Frames.{Child, Stack};
 ghost use Rattle.zio_frames.specs.Moves.{heard_early, heard_of};
 ghost use Rattle.zio_stages.specs.RequestHearings.{HearsEarlyOf};
 ghost use Rattle.zio_stages.specs.RequestNodes.{IsRequestNode};
-ghost use Rattle.zio_turns.specs.Stages.{Hears, HearsEarly, HearsSome, HearsSomeEarly, heard_max};
+ghost use Rattle.zio_staged.specs.Stages.{Hears, HearsEarly, HearsSome, HearsSomeEarly, heard_max};
 ghost use Rattle.zio_nodes.specs.Nodes.{gave_of, left_of, nodes};
 ghost use Rattle.zio_nodes.specs.Passes.{IsInPassOf};
 ghost use Rattle.zio_nodes.specs.RequestAts.{IsRequestAtOver};

@@ -12,7 +12,8 @@ use crate::rounds::run_rounds;
 use std::alloc::Global;
 use zio_command::{Command, Engines, RunOutcome, outcome_of};
 use zio_disks::Setting;
-use zio_graph::{FirstPicks, Graph, Picks, from_seed};
+use zio_graph::{Alone, FirstPicks, Graph, Helper, Picks, from_seed};
+use zio_nodes::NodeBox;
 use zio_outside::{Disk, Sink};
 use zio_report::{RunFault, Show};
 use zio_script::Script;
@@ -25,17 +26,18 @@ pub(crate) struct OneThread {
     pub(crate) picks: Option<u64>,
 }
 
-/// Makes the engine that a command asks for.
-pub(crate) fn one_thread(command: &Command) -> OneThread
-    ensures { result.picks ≡ picks_of command.now }
-{
-    match command {
-        Command::Run { picks, .. } => OneThread { picks: *picks },
-        Command::Gen { .. } | Command::Load { .. } => OneThread { picks: None },
-    }
-}
-
 impl Engines for OneThread {
+    ghost Can = { Unit {0} };
+
+    fn asked_by(self, command: &Command) -> OneThread
+        ensures { result.picks ≡ picks_of command.now }
+    {
+        match command {
+            Command::Run { picks, .. } => OneThread { picks: *picks },
+            Command::Gen { .. } | Command::Load { .. } => OneThread { picks: None },
+        }
+    }
+
     fn run<O: Sink, D: Disk + Drop>(
         &self,
         alloc: Global,
@@ -48,36 +50,39 @@ impl Engines for OneThread {
         journal: &mut Journal,
     ) -> (RunOutcome, Vec<D>) {
         match self.picks {
-            Some(seed) => run_by_picks(
+            Some(seed) => run_by(
                 alloc,
                 script,
                 show,
                 setting,
                 tops,
                 from_seed(seed),
+                Alone,
                 disks,
                 out,
                 journal,
             ),
-            None => run_by_picks(
-                alloc, script, show, setting, tops, FirstPicks, disks, out, journal,
+            None => run_by(
+                alloc, script, show, setting, tops, FirstPicks, Alone, disks, out, journal,
             ),
         }
     }
 }
 
-/// Runs the script by these picks.
-fn run_by_picks<O: Sink, D: Disk + Drop, P: Picks + Drop>(
+/// Runs the script by these picks, with this help.
+pub(crate) fn run_by<O: Sink, D: Disk + Drop, P: Picks + Drop, H: Helper<NodeBox> + Drop>(
     alloc: Global,
     script: &Script,
     show: &Show,
     setting: Setting,
     tops: List<Top>,
     picks: P,
+    helper: H,
     disks: Vec<D>,
     out: &mut O,
     journal: &mut Journal,
 ) -> (RunOutcome, Vec<D>)
+    requires can { H.Can }
     requires script { (text : Seq ℕ) × IsScriptOf text script.now }
     requires setting { IsSettingOf script.now (map D.bytes disks.items) setting }
     requires tops { tops ≡ setting.tops }
@@ -90,7 +95,7 @@ fn run_by_picks<O: Sink, D: Disk + Drop, P: Picks + Drop>(
     ensures same { AreSameDisks D.bytes D.faults D.faults_at_fetch D.home D.image D.sound disks.items result.1.items }
 {
     let images = disks.len() as u32;
-    match Graph::new(alloc, setting, disks, tops, picks) {
+    match Graph::new(alloc, setting, disks, tops, picks, helper) {
         Ok(engine) => {
             let (ended, disks) = run_rounds(alloc, script, show, images, engine, out, journal);
             (outcome_of(ended), disks)

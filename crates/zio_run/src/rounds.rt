@@ -9,7 +9,8 @@ ghost use Rattle.zio_command.specs.Seen.{sink_by};
 
 use std::alloc::Global;
 use zio_gang::Ending;
-use zio_graph::{Graph, Picks};
+use zio_graph::{Graph, Helper, Picks};
+use zio_nodes::NodeBox;
 use zio_outside::{Disk, Sink};
 use zio_report::{RunFault, Show};
 use zio_script::Script;
@@ -17,15 +18,16 @@ use zio_suspend::run_script;
 use zio_types::Journal;
 
 /// Runs the script on an engine that has run nothing yet, over so many images, and hands the disks back.
-pub(crate) fn run_rounds<O: Sink, D: Disk + Drop, P: Picks + Drop>(
+pub(crate) fn run_rounds<O: Sink, D: Disk + Drop, P: Picks + Drop, H: Helper<NodeBox> + Drop>(
     alloc: Global,
     script: &Script,
     show: &Show,
     images: u32,
-    mut engine: Graph<D, P>,
+    mut engine: Graph<D, P, H>,
     out: &mut O,
     journal: &mut Journal,
 ) -> (Result<Ending, RunFault>, Vec<D>)
+    requires can { H.Can }
     requires script { (text : Seq ℕ) × IsScriptOf text script.now }
     requires setting { IsSettingOf script.now (map D.bytes engine.disks) engine.setting }
     requires live { engine.live ≡ [] }

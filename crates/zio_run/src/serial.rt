@@ -18,11 +18,9 @@ ghost use Rattle.zio_command.specs.Shelves.{KeepOthers};
 ghost use Rattle.zio_command.specs.Tops.{HaveImages, leaves_of};
 ghost use Rattle.zio_command.specs.Words.{IsCommandOf, IsNoCommandOf};
 
-use crate::engines::one_thread;
+use crate::engines::OneThread;
+use crate::words::run_words;
 use std::alloc::Global;
-use zio_command::{CODE_MEMORY, WordsError, end_with, read_words, run_command};
-use zio_gen::generated_scripts_are_accepted;
-use zio_heal::healed_scripts_store_plainly;
 use zio_outside::{Shelf, Sink, Source};
 use zio_types::{Journal, Status};
 
@@ -126,14 +124,6 @@ where
         × ((command : Asked) → IsCommandOf true (map string_bytes words.now) command → runs command ≡ false
         → journal.new ≡ journal.old) }
 {
-    generated_scripts_are_accepted();
-    healed_scripts_store_plainly();
-    match read_words(alloc, true, words) {
-        Ok(command) => {
-            let engines = one_thread(&command);
-            run_command(alloc, &engines, command, script, shelf, out, journal)
-        }
-        Err(WordsError::Words) => end_with(out, "words\n", 1),
-        Err(WordsError::Memory) => Status { code: CODE_MEMORY },
-    }
+    let engines = OneThread { picks: None };
+    run_words(alloc, true, engines, words, script, shelf, out, journal)
 }

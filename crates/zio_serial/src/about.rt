@@ -1,16 +1,21 @@
-ghost use Rattle.std.specs.Prelude.{◌≡◌, map, string_bytes};
-ghost use Rattle.zio_serial.specs.Questions.{asked_by, asked_by_one, asked_by_two, is_help};
+//! What the program says of itself.
 
-use clap::{Arg, ArgAction, Command};
-use std::alloc::{AllocError, Global};
+use zio_program::About;
 
-const ABOUT: &str = "Runs a script of block requests on image files, on one thread.";
+/// Its name, and what `--help` tells.
+pub const ABOUT: About<'static> = About {
+    name: "zio_serial",
+    purpose: "Runs a script of block requests on image files, on one thread.",
+    usage: USAGE,
+    rest: REST,
+};
 
+/// Its commands.
 pub const USAGE: &str = "zio_serial run [--picks SEED] [--journal] [--data] IMAGE.. < SCRIPT
        zio_serial gen SEED N
        zio_serial load SEED N IMAGE..";
 
-const AFTER: &str = "\
+const REST: &str = "\
 run IMAGE.. reads a script from standard input, runs it, and writes the report
 to standard output. There are 1 to 16 images, files of 64 KiB to 256 MiB that
 are changed in place; leaf 0 of the script is the first of them.
@@ -47,78 +52,3 @@ Of each status but 0 a line on standard error tells more. The whys of status 2:
   7  canfail under a request that may not fail
   8  the parent isn't one, or the batch of a claim has another request
   9  a leaf is in two tops, a fault's leaf in none, or there is no top";
-
-/// What a single word asks of the program itself.
-#[derive(Clone, Copy)]
-pub enum Question {
-    Help,
-    Version,
-}
-
-fn is_help(word: &str) -> bool
-    ensures { result ≡ is_help word.now }
-{
-    word == "--help" || word == "-h"
-}
-
-fn asked_by_one(word: &str) -> Option<Question>
-    ensures { result ≡ asked_by_one word.now }
-{
-    if is_help(word) {
-        Some(Question::Help)
-    } else if word == "--version" {
-        Some(Question::Version)
-    } else {
-        None
-    }
-}
-
-fn asked_by_two(first: &str, word: &str) -> Option<Question>
-    ensures { result ≡ asked_by_two first.now word.now }
-{
-    if first == "run" && is_help(word) {
-        Some(Question::Help)
-    } else {
-        None
-    }
-}
-
-/// The question that these words are, none where they are for the top call.
-pub fn asked(words: &[String]) -> Option<Question>
-    ensures { result ≡ asked_by (map string_bytes words.now) }
-{
-    match words {
-        [word] => asked_by_one(word.as_str()),
-        [first, word] => asked_by_two(first.as_str(), word.as_str()),
-        _ => None,
-    }
-}
-
-/// The answer, which ends with a newline.
-pub fn text_of(alloc: Global, question: Question) -> Result<String, AllocError> {
-    let mut command = command(alloc)?;
-    match question {
-        Question::Help => command.render_help(),
-        Question::Version => command.render_version(),
-    }
-}
-
-fn command<'a>(alloc: Global) -> Result<Command<'a>, AllocError> {
-    let help = Arg::new(alloc, "help")
-        .long("help")
-        .action(ArgAction::Help)
-        .help("Print this text");
-    let version = Arg::new(alloc, "version")
-        .long("version")
-        .action(ArgAction::Version)
-        .help("Print the version");
-    Command::new(alloc, "zio_serial")
-        .version("0.1.0")
-        .about(ABOUT)
-        .override_usage(USAGE)
-        .after_help(AFTER)
-        .disable_help_flag(true)
-        .disable_version_flag(true)
-        .arg(help)?
-        .arg(version)
-}

@@ -1,24 +1,21 @@
 //! The program `zio_serial`: runs a script on an image file, on one thread.
 //!
 //! It joins `zio_serial_main` to standard input, standard output and files, and ends with its code as the exit status.
-//! What a run does is the contract of that call. Questions for help or the version are answered here, as `about` says,
-//! and `told` has the line on standard error that goes with a code other than 0.
+//! What a run does is the contract of that call. Questions for help or the version are answered here; `zio_program` has
+//! them, and the line on standard error that goes with a code other than 0.
 #![tactic(auto)]
 
 mod about;
-mod told;
-mod watched;
 
-use about::{asked, text_of};
+use about::{ABOUT, USAGE};
 use std::alloc::AllocError;
 use std::env;
 use std::fs::File;
 use std::io::ErrorKind;
 use std::process::ExitCode;
-use told::line_of;
-use watched::Watched;
 use zio_command::{CODE_MEMORY, CODE_SINK};
 use zio_outside::{FileShelf, Sink, StdSink, StdSource};
+use zio_program::{Watched, asked, line_of, text_of};
 use zio_run::zio_serial_main;
 use zio_types::Journal;
 
@@ -49,7 +46,7 @@ fn words(rt: &HostRuntime) -> Result<Vec<String>, AllocError> {
 
 fn answer(rt: &HostRuntime, words: &[String]) -> u8 {
     match asked(words) {
-        Some(question) => match text_of(rt.alloc(), question) {
+        Some(question) => match text_of(rt.alloc(), ABOUT, question) {
             Ok(text) => tell(rt, text.as_str()),
             Err(_) => CODE_MEMORY,
         },
@@ -86,7 +83,7 @@ fn run(rt: &HostRuntime, words: &[String]) -> u8 {
 
 /// Tells in a line on standard error what the code means here. It says more than the code does, and changes nothing.
 fn explain(rt: &HostRuntime, code: u8, front: &[u8], words: &[String]) {
-    if let Ok(line) = line_of(rt, rt.alloc(), code, front, words) {
+    if let Ok(line) = line_of(rt, rt.alloc(), USAGE, code, front, words) {
         let _ = eprintln!(rt; "zio_serial: {line}");
     }
 }

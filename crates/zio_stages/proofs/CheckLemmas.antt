@@ -1,5 +1,5 @@
 -- What a pointer says of the body or the header that is read for it, however many bytes were read.
-use Rattle.std.proofs.Common.{◌≡◌, ◌≢◌, ℕ, zero, suc, ◌+◌, ◌*◌, ◌/◌, ◌%◌, ◌^◌, ◌<◌, ◌≤◌, List, [], ◌∷◌, ◌++◌, length, map, replicate, get_or, take, drop, Bool, true, false, Option, Some, None, slice_get, bytes_eq, IsTrue, refl, sym, ap, subst, ◌∙◌, arith, length-append}
+use Rattle.std.proofs.Common.{◌≡◌, ◌≢◌, ℕ, zero, suc, ◌%◌, ◌^◌, ◌<◌, ◌≤◌, List, [], ◌∷◌, ◌++◌, length, map, replicate, get_or, take, drop, Bool, true, false, Option, Some, None, slice_get, bytes_eq, IsTrue, refl, sym, ap, subst, ◌∙◌, arith, length-append}
 use Rattle.std.proofs.lemmas.Bool.{and_parts}
 use Rattle.std.proofs.lemmas.Slice.Eq.{bytes_eq-Decides}
 use Rattle.std.specs.List.{list_all, flat_map, cons_option}
@@ -8,42 +8,11 @@ use Rattle.zio_types.specs.Choices.{no_place}
 use Rattle.zio_types.specs.Filled.{filled_to}
 use Rattle.zio_blkptr.specs.declared.pointer.Bp.{Bp}
 use Rattle.zio_blkptr.specs.declared.pointer.SumKind.{SumKind}
-use Rattle.zio_blkptr.specs.declared.pointer.SumKind.TheVariants.{Fletcher4}
 use Rattle.zio_blkptr.specs.Pointers.{fields, is_present, pointer_of, spelling, valid, word}
 use Rattle.zio_blkptr.proofs.PointerLemmas.{IsInRange-from, fields-pointer, valid_parts}
-use Rattle.zio_cksum.specs.Blocks.{good_body, good_claimed, good_claimed_at}
+use Rattle.zio_cksum.specs.Blocks.{good_claimed, good_claimed_at}
 use Rattle.zio_cksum.specs.Headers.{gang_sum_of, header_front, header_magic, header_of, is_header, member_bytes, members_max, members_of, split_sizes}
-use Rattle.zio_cksum.specs.Sums.{Fletcher, fits, fletcher4, fletcher_after, fletcher_step, fletcher_words, sha256_words}
-
--- ---- a body
-
-after_words : (k : ℕ) (bytes : List ℕ) (s : Fletcher) → 4 * k ≤ length bytes → length bytes < 4 * k + 4 → fletcher_after s (take (4 * k) bytes) ≡ fletcher_after s bytes
-unfolding fletcher_after
-after_words zero [] s low high = refl
-after_words zero (x ∷ []) s low high = refl
-after_words zero (x ∷ y ∷ []) s low high = refl
-after_words zero (x ∷ y ∷ z ∷ []) s low high = refl
-after_words zero (w ∷ x ∷ y ∷ z ∷ bytes) s low high = absurd (omega (arith, high))
-after_words (suc k) [] s low high = absurd (omega (arith, low))
-after_words (suc k) (w ∷ []) s low high = absurd (omega (arith, low))
-after_words (suc k) (w ∷ x ∷ []) s low high = absurd (omega (arith, low))
-after_words (suc k) (w ∷ x ∷ y ∷ []) s low high = absurd (omega (arith, low))
-after_words (suc k) (w ∷ x ∷ y ∷ z ∷ bytes) s low high =
-    let four : 4 * suc k ≡ suc (suc (suc (suc (4 * k)))) = omega arith in
-    ap (λ n. fletcher_after s (take n (w ∷ x ∷ y ∷ z ∷ bytes))) four ∙ after_words k bytes (fletcher_step s _) (omega (arith, low)) (omega (arith, high))
-
--- fletcher4 is that of the whole words
-pub whole_words : (n : ℕ) (bytes : List ℕ) → n ≡ length bytes / 4 * 4 → fletcher4 (take n bytes) ≡ fletcher4 bytes
-unfolding fletcher4
-whole_words n bytes e =
-    let k : ℕ = length bytes / 4 in
-    let is : n ≡ 4 * k = omega arith in
-    let none : Fletcher = record { a = 0; b = 0; c = 0; d = 0 } in
-    ap (λ m. fletcher_words (fletcher_after none (take m bytes))) is ∙ ap fletcher_words (after_words k bytes none (omega arith) (omega arith))
-
-pub body_by_words : (bp : Bp) (n : ℕ) (bytes : List ℕ) → bp.sum ≡ Fletcher4 → n ≡ length bytes / 4 * 4 → fits bp.sum bp.words (take n bytes) ≡ good_body bp bytes
-body_by_words bp n bytes sum e =
-    ap (λ k. fits k bp.words (take n bytes)) sum ∙ ap (λ s. bytes_eq s bp.words) (whole_words n bytes e) ∙ sym (ap (λ k. fits k bp.words bytes) sum)
+use Rattle.zio_cksum.specs.Sums.{sha256_words}
 
 -- ---- the first place and the size of a pointer
 

@@ -4,7 +4,9 @@ use Rattle.zio_types.specs.declared.error.Errno.{Errno}
 use Rattle.zio_types.specs.declared.place.Place.{Place}
 use Rattle.zio_types.specs.declared.request.Prio.{Prio}
 use Rattle.zio_types.specs.Places.{sector_size}
+use Rattle.zio_blkptr.specs.declared.pointer.SumKind.{SumKind}
 use Rattle.zio_cksum.specs.Headers.{offset_of}
+use Rattle.zio_cksum.specs.Sums.{sum_of}
 use Rattle.zio_gang.specs.Attempts.{Terms}
 use Rattle.zio_trace.specs.Leaves.{Answer, Fetch, LeafOp, Store}
 use Rattle.zio_trace.specs.Tasks.{Got, Leaf}
@@ -86,3 +88,15 @@ IsAnsweredAt (Answered a) = Unit {0}
 
 abbrev pub IsAnswered : LeafWork → Type 0
 IsAnswered w = IsAnsweredAt w.stage
+
+-- ---- the checksum of what was read
+
+abbrev pub IsSumOf : SumKind → Progress → List ℕ → Type 0
+IsSumOf sum (Answered (Ok bytes)) words = words ≡ sum_of sum bytes
+IsSumOf sum (Answered (Err e)) words = ⊥
+IsSumOf sum (Due bytes) words = ⊥
+IsSumOf sum Out words = ⊥
+
+-- something was read, and these words are its checksum of the kind that is wanted
+abbrev pub IsSumAhead : LeafWork → List ℕ → Type 0
+IsSumAhead w words = IsSumOf w.sum w.stage words

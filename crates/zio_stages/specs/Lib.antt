@@ -1,3 +1,4 @@
+pub mod BlocksAhead
 pub mod Checks
 pub mod ClosedRequests
 pub mod Closings

@@ -7,7 +7,7 @@ ghost use Rattle.zio_trace.specs.Tasks.{BodyOf, ClaimedBy, KeptAs, good_by};
 
 use std::marker::Model;
 use zio_blkptr::{Bp, SumKind};
-use zio_cksum::verify;
+use zio_exchange::Summed;
 use zio_gang::header_decode;
 use zio_types::{Bytes, Errno};
 
@@ -74,42 +74,43 @@ impl Check {
         }
     }
 
-    /// Whether the bytes, however many, are good.
-    pub fn is_good(&self, bytes: &[u8]) -> bool
-        ensures { result ≡ good_by self.now bytes.now }
+    /// Of which kind a checksum is taken of what is read.
+    pub(crate) fn sum(&self) -> SumKind {
+        match &self.wanted {
+            Wanted::Body(bp) => bp.sum,
+            Wanted::Kept(_) | Wanted::Claimed(_) => SumKind::Off,
+        }
+    }
+
+    /// Whether what was read, however much, is good.
+    fn is_good(&self, read: &Summed) -> bool
+        ensures { result ≡ good_by self.now read.now }
     {
         match &self.wanted {
-            Wanted::Body(bp) => is_body(bp, bytes),
-            Wanted::Kept(header) => is_kept(header, bytes),
-            Wanted::Claimed(bp) => is_claimed(bp, bytes),
+            Wanted::Body(bp) => is_body(bp, read),
+            Wanted::Kept(header) => is_kept(header, read.as_slice()),
+            Wanted::Claimed(bp) => is_claimed(bp, read.as_slice()),
         }
     }
 
     /// What a leaf's answer to a read comes to: bytes that aren't good are a checksum error.
-    pub(crate) fn judged(&self, found: Result<Bytes, Errno>) -> Result<Bytes, Errno>
+    pub(crate) fn judged(&self, found: Result<Summed, Errno>) -> Result<Bytes, Errno>
         ensures { result ≡ judged (good_by self.now) found }
     {
-        let bytes = found?;
-        if self.is_good(bytes.as_slice()) {
-            Ok(bytes)
+        let read = found?;
+        if self.is_good(&read) {
+            Ok(read.into_bytes())
         } else {
             Err(Errno::Cksum)
         }
     }
 }
 
-/// Whether the bytes have the pointer's sum.
-fn is_body(bp: &Bp, bytes: &[u8]) -> bool
-    ensures { result ≡ good_body bp.now bytes.now }
+/// Whether what was read has the pointer's sum.
+fn is_body(bp: &Bp, read: &Summed) -> bool
+    ensures { result ≡ good_body bp.now read.now }
 {
-    match bp.sum {
-        // It sums whole words; what stands behind the last one doesn't count.
-        SumKind::Fletcher4 => {
-            let words = &bytes[..bytes.len() / 4 * 4];
-            verify(bp.sum, words, &bp.words)
-        }
-        SumKind::Off | SumKind::Sha256 => verify(bp.sum, bytes, &bp.words),
-    }
+    read.verify(bp.sum, &bp.words)
 }
 
 /// Whether the bytes are those that are kept.

@@ -25,6 +25,7 @@ use crate::node_io::{IoNext, assess_read, hear_read, read_next, start_read};
 use crate::read_io::ReadIo;
 use crate::write_io::IoStep;
 use std::alloc::Global;
+use zio_exchange::Summed;
 use zio_types::{Bytes, Errno, List, NoMemory, Place, Prio, ReqNo, Top};
 
 /// A node that reads a block's copies, until one is good.
@@ -144,7 +145,7 @@ impl CopiesNode {
     }
 
     /// A child has ended: with the bytes of its read, with none of a repair, or with an error.
-    pub fn arrive(&mut self, tops: &[Top], child: usize, found: Result<Bytes, Errno>)
+    pub fn arrive(&mut self, tops: &[Top], child: usize, found: Result<Summed, Errno>)
         requires over { IsCopiesOver tops.now self.old }
         requires awaited { IsAwaitedAt Layer.Own self.old.family child }
         ensures heard { (t : Terms) (st : Stack) (c : Child) (a : Answer) → t.setting.tops ≡ tops.now → found ≡ a →

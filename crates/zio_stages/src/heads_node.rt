@@ -48,10 +48,11 @@ use crate::named::Named;
 use crate::pointer_places::places_of;
 use std::alloc::Global;
 use zio_blkptr::Bp;
+use zio_exchange::Summed;
 use zio_gang::Head;
 use zio_parts::{MemberWalk, WalkStep, Walked};
 use zio_types::{
-    Bytes, ChildKind, Errno, List, NoMemory, Path, Place, Prio, ReqNo, Role, SECTOR_SIZE, Top,
+    ChildKind, Errno, List, NoMemory, Path, Place, Prio, ReqNo, Role, SECTOR_SIZE, Top,
 };
 
 /// The walk over a block's headers, or over a claim's, from a pointer down.
@@ -270,7 +271,7 @@ impl HeadsNode {
         alloc: Global,
         tops: &[Top],
         child: usize,
-        found: &Result<Bytes, Errno>,
+        found: &Result<Summed, Errno>,
     ) -> Result<(), NoMemory>
         requires over { IsHeadsOver tops.now self.old }
         requires awaited { HearsSomeHead tops.now self.old child found.now }
@@ -360,7 +361,7 @@ fn reading(
 }
 
 /// What was read of a header, which has 512 bytes.
-fn header_of(found: &Result<Bytes, Errno>) -> Result<[u8; 512], Errno>
+fn header_of(found: &Result<Summed, Errno>) -> Result<[u8; 512], Errno>
     requires { IfOk found.now (λ bytes. length bytes ≡ 512) }
     ensures { result ≡ found.now }
 {

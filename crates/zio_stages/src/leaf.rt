@@ -1,6 +1,6 @@
 // One operation on a leaf under way.
 
-ghost use Rattle.std.specs.Prelude.{◌≡◌, [], ◌∷◌, List, false};
+ghost use Rattle.std.specs.Prelude.{◌≡◌, [], ◌∷◌, IfSome, List, false};
 ghost use Rattle.zio_gang.specs.Attempts.{Terms};
 ghost use Rattle.zio_trace.specs.Leaves.{Answer, Fetch, LeafOp, Store};
 ghost use Rattle.zio_trace.specs.Tasks.{Got, Leaf};
@@ -9,12 +9,14 @@ ghost use Rattle.zio_frames.specs.Slots.{Heard};
 ghost use Rattle.zio_parts.specs.Copies.{spot_at};
 ghost use Rattle.zio_exchange.specs.LeafOps.{IsOpAt, IsOpFor};
 ghost use Rattle.zio_stages.specs.Labels.{operation_label};
-ghost use Rattle.zio_stages.specs.LeafWorks.{IsAnswered, IsDue, IsLeafWork, IsQueuedAs, IsSpanned, len_of, shown_by};
+ghost use Rattle.zio_stages.specs.LeafWorks.{IsAnswered, IsDue, IsLeafWork, IsQueuedAs, IsSpanned, IsSumAhead, len_of, shown_by};
 
 use crate::label::{Label, Level, sectors_in};
 use crate::origin::Origin;
 use std::alloc::Global;
 use std::mem::replace;
+use zio_blkptr::SumKind;
+use zio_exchange::{Summed, sum_of_read};
 use zio_parts::Target;
 use zio_types::{Bytes, Errno, Flags, List, Prio, ReqNo, SECTOR_SIZE};
 use zio_vqueue::Op;
@@ -35,7 +37,7 @@ enum Progress {
     Due(Bytes),
     Out,
     /// The bytes that were read, none of a write, or an error.
-    Answered(Result<Bytes, Errno>),
+    Answered(Result<Summed, Errno>),
 }
 
 /// One operation on a leaf: it is handed out to the leaf once, with the bytes of a write, and answered.
@@ -46,6 +48,8 @@ pub struct LeafWork {
     /// As the leaf's queue takes it. Its range is the whole place, however many bytes are read or written.
     op: Op,
     act: Act,
+    /// Of which kind a checksum is wanted of what is read.
+    sum: SumKind,
     stage: Progress,
 }
 
@@ -56,6 +60,7 @@ impl LeafWork {
         origin: Origin,
         target: &Target,
         len: usize,
+        sum: SumKind,
         retry: bool,
         prio: Prio,
     ) -> LeafWork
@@ -70,6 +75,7 @@ impl LeafWork {
             leaf: target.leaf,
             op: op_on(target, false, retry, prio, false),
             act: Act::Read { len },
+            sum,
             stage: Progress::Due(List::new(alloc)),
         }
     }
@@ -95,6 +101,7 @@ impl LeafWork {
             leaf: target.leaf,
             op: op_on(target, true, retry, prio, repair),
             act: Act::Write,
+            sum: SumKind::Off,
             stage: Progress::Due(bytes),
         }
     }
@@ -171,15 +178,50 @@ impl LeafWork {
         let told = match error {
             Some(error) => Err(error),
             None => match self.act {
-                Act::Read { .. } => Ok(bytes),
-                Act::Write => Ok(emptied(bytes)),
+                Act::Read { .. } => Ok(Summed::unsummed(bytes)),
+                Act::Write => Ok(Summed::unsummed(emptied(bytes))),
             },
         };
         self.stage = Progress::Answered(told);
     }
 
+    /// How many bytes were read whose checksum is wanted.
+    pub fn len_to_sum(&self) -> usize {
+        match (&self.stage, self.sum) {
+            (Progress::Answered(Ok(read)), SumKind::Fletcher4 | SumKind::Sha256) => read
+                .as_slice()
+                .len(),
+            _ => 0,
+        }
+    }
+
+    /// The checksum of what was read, if one is wanted.
+    pub fn sum_ahead(&self) -> Option<[u64; 4]>
+        ensures { IfSome result (IsSumAhead self.now) }
+    {
+        match (&self.stage, self.sum) {
+            (Progress::Answered(Ok(read)), SumKind::Fletcher4 | SumKind::Sha256) => Some(
+                sum_of_read(self.sum, read.as_slice()),
+            ),
+            _ => None,
+        }
+    }
+
+    /// What was read has this checksum.
+    pub fn set_sum(&mut self, words: [u64; 4])
+        requires { IsSumAhead self.old words }
+        ensures { self.new ≡ self.old }
+    {
+        match replace(&mut self.stage, Progress::Out) {
+            Progress::Answered(Ok(read)) => {
+                self.stage = Progress::Answered(Ok(read.with_sum(self.sum, words)));
+            }
+            Progress::Answered(Err(_)) | Progress::Due(_) | Progress::Out => unreachable!(),
+        }
+    }
+
     /// What it was answered: the bytes that were read, good or not; of a write no bytes; or the error.
-    pub fn into_found(self) -> Result<Bytes, Errno>
+    pub fn into_found(self) -> Result<Summed, Errno>
         requires { IsAnswered self }
         ensures { (t : Terms) (x : Frame) (a : Answer) → IsLeafWork t self x → x.slots ≡ Heard (Got a) ∷ [] →
             result ≡ a }

@@ -73,7 +73,7 @@ pub use read_io::ReadIo;
 pub use request_name::request_label;
 pub use request_node::{DoneStep, NodeBack, ReadyStep, RequestNode, Start};
 pub use request_read::{BodyStage, ReadDone};
-pub use request_write::Content;
+pub use request_write::{Block, Content};
 pub use tree::TreeWork;
 pub use write_io::{IoStep, WriteIo};
 pub use write_laws::{a_write_is_that_of_its_block, children_that_told_settle_the_content};

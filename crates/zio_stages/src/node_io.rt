@@ -32,7 +32,8 @@ use crate::named::Named;
 use crate::read_io::ReadIo;
 use crate::write_io::{IoStep, WriteIo};
 use std::alloc::Global;
-use zio_types::{Bytes, ChildKind, Errno, NoMemory, Top};
+use zio_exchange::Summed;
+use zio_types::{ChildKind, Errno, NoMemory, Top};
 
 /// What a read or a write is to do once nothing more of it can be handed out now.
 #[derive(Clone, Copy, Debug, PartialEq, Eq)]
@@ -126,7 +127,7 @@ pub(crate) fn hear_read(
     family: &mut Family,
     tops: &[Top],
     child: usize,
-    found: Result<Bytes, Errno>,
+    found: Result<Summed, Errno>,
 )
     requires over { IsReadOver tops.now io.old }
     requires sits { SitsOn layer (IsReadOutIn io.old) family.old }

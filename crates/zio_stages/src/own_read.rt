@@ -37,6 +37,7 @@ use crate::read_io::ReadIo;
 use crate::tree::TreeWork;
 use std::alloc::Global;
 use zio_blkptr::Bp;
+use zio_exchange::Summed;
 use zio_parts::{BodyRead, TreeStep};
 use zio_types::{Bytes, Errno, List as Items, NoMemory, Place, Prio, Top};
 
@@ -266,7 +267,7 @@ impl OwnRead {
         family: &mut Family,
         tops: &[Top],
         child: usize,
-        found: Result<Bytes, Errno>,
+        found: Result<Summed, Errno>,
     )
         requires over { IsOwnReadOver tops.now self.old family.old }
         requires awaited { IsAwaitedAt Within family.old child }

@@ -16,6 +16,7 @@ use crate::leaf::LeafWork;
 use crate::named::Named;
 use crate::write_io::{IoStep, copy_of};
 use std::alloc::Global;
+use zio_exchange::Summed;
 use zio_parts::{CopyRead, ReadStep};
 use zio_types::{Bytes, Errno, List, NoMemory, Place, Prio, Top};
 
@@ -112,7 +113,8 @@ impl ReadIo {
                 let retry = self.read.retry();
                 let len = self.read.len();
                 let origin = name.on(self.read.places(), &target.place);
-                Ok(LeafWork::read(alloc, origin, &target, len, retry, self.prio))
+                let sum = self.check.sum();
+                Ok(LeafWork::read(alloc, origin, &target, len, sum, retry, self.prio))
             }
             ReadStep::Repair(target) => {
                 let retry = self.read.retry();
@@ -154,7 +156,7 @@ impl ReadIo {
 
     /// The operation of this number has answered. Bytes that were read and aren't good are a checksum error; what a
     /// repair came to doesn't matter.
-    pub fn hear(&mut self, tops: &[Top], n: usize, found: Result<Bytes, Errno>)
+    pub fn hear(&mut self, tops: &[Top], n: usize, found: Result<Summed, Errno>)
         requires over { IsReadOver tops.now self.old }
         requires out { IsReadOutIn self.old n }
         ensures heard { (t : Terms) (x : Frame) (a : Answer) → t.setting.tops ≡ tops.now → found ≡ a →

@@ -2,8 +2,9 @@
 
 ghost use Rattle.std.specs.Prelude.{◌≡◌, length, ℕ};
 ghost use Rattle.zio_script.specs.Requests.{kind_of};
+ghost use Rattle.zio_script.specs.Whys.{body_len};
 ghost use Rattle.zio_stages.specs.Labels.{request_label};
-ghost use Rattle.zio_stages.specs.RequestKinds.{has_gang_stages, is_gang_tree, is_stored, points_to_gang};
+ghost use Rattle.zio_stages.specs.RequestKinds.{body_len_of, has_gang_stages, is_gang_tree, is_stored, points_to_gang};
 ghost use Rattle.zio_stages.specs.RequestOwns.{IsOwnSeat};
 
 use crate::family::Seat;
@@ -11,7 +12,7 @@ use crate::request_name::request_label;
 use crate::request_node::{Own, RequestNode};
 use zio_blkptr::decode;
 use zio_gang::Tree;
-use zio_script::{Failmode, Work};
+use zio_script::{Body, Failmode, Work};
 use zio_types::{Kind, ReqNo};
 
 impl RequestNode {
@@ -41,6 +42,16 @@ impl RequestNode {
         ensures { result ≡ request_label self.now.waiting self.now.attempt }
     {
         request_label(&self.waiting, self.attempt)
+    }
+
+    /// How many bytes the body of a write has, which stands behind its children's pointers; 0 where it is no write.
+    pub fn body_len(&self) -> usize
+        ensures { result ≡ body_len_of self.now.waiting.request.work }
+    {
+        match &self.waiting.request.work {
+            Work::Write { body, .. } => len_of(body),
+            Work::Null | Work::Read { .. } | Work::Free { .. } | Work::Claim { .. } => 0,
+        }
     }
 
     /// Whether its pipeline has the gang stages: those of a read, a free or a claim of a gang do.
@@ -102,6 +113,16 @@ impl RequestNode {
         ensures { result ≡ self.now.failmode }
     {
         self.failmode
+    }
+}
+
+/// How many bytes the body has.
+fn len_of(body: &Body) -> usize
+    ensures { result ≡ body_len body.now }
+{
+    match body {
+        Body::Hex(bytes) => bytes.len(),
+        Body::Fill { len, .. } | Body::Seq { len, .. } => *len as usize,
     }
 }
 

@@ -21,13 +21,14 @@ ghost use Rattle.zio_parts.specs.TreeReads.{bodies_or, walk_heard};
 ghost use Rattle.zio_stages.specs.declared.family.Layer.TheVariants.{Within};
 
 use crate::request_node::{Own, RequestNode};
+use zio_exchange::Summed;
 use zio_parts::Walked;
 use zio_types::{Bytes, Errno, Top};
 
 impl RequestNode {
     /// An operation on a leaf of the body that the node reads itself has ended: with the bytes of its read, with none
     /// of a repair, or with an error.
-    pub fn arrive_leaf_read(&mut self, tops: &[Top], child: usize, found: Result<Bytes, Errno>)
+    pub fn arrive_leaf_read(&mut self, tops: &[Top], child: usize, found: Result<Summed, Errno>)
         requires reads { IsReadingWith (λ w. Unit {0}) self.old.own }
         requires over { IsOwnOver tops.now self.old.own self.old.family }
         requires awaited { IsAwaitedAt Within self.old.family child }

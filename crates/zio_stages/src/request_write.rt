@@ -16,7 +16,8 @@ ghost use Rattle.zio_frames.specs.Moves.{WillHave};
 ghost use Rattle.zio_frames.specs.Seats.{IsSeated};
 ghost use Rattle.zio_stages.specs.KidPointers.{HaveValidPointers};
 ghost use Rattle.zio_stages.specs.OwnParts.{IsOwed};
-ghost use Rattle.zio_stages.specs.WrittenBlocks.{IsSoundWrite};
+ghost use Rattle.zio_stages.specs.BlocksAhead.{IsBlockAhead};
+ghost use Rattle.zio_stages.specs.WrittenBlocks.{HaveAllTold, IsSoundWrite};
 ghost use Rattle.zio_stages.specs.RequestNodes.{IsOwnOver, IsRequestNode};
 ghost use Rattle.zio_stages.specs.RequestStages.{with_own};
 ghost use Rattle.zio_stages.specs.RequestWrites.{IsBegunWrite, IsEndOf, IsPlacedWrite, IsReadyWrite, IsWrittenWrite};
@@ -25,11 +26,18 @@ ghost use Rattle.zio_stages.specs.StoredBlocks.{IsGoingBack};
 
 use crate::own_write::{OwnWrite, block_of};
 use crate::part_members::WorkBack;
+use crate::part_work::PartWork;
 use crate::request_node::{DoneStep, Own, ReadyStep, RequestNode};
 use crate::stored_block::StoredBlock;
 use std::alloc::Global;
 use std::mem::replace;
 use zio_types::{ChildKind, NoMemory};
+
+/// The block of a write as it is to be written: its content, and the sum of that.
+#[derive(Drop)]
+pub struct Block {
+    pub(crate) work: PartWork,
+}
 
 /// Whether a write's content could be set.
 #[derive(Clone, Copy, Debug, PartialEq, Eq)]
@@ -61,13 +69,57 @@ impl RequestNode {
         ensures rest { self.new ≡ with_own self.old self.new.own self.old.family }
         ensures err { OnErr result (self.new ≡ self.old) }
     {
-        let kids = self.kids.kids();
-        if !kids.all_told() {
+        if !self.kids.kids().all_told() {
             return Ok(Content::Wait(ChildKind::Logical));
         }
-        let work = block_of(alloc, &self.waiting, kids, self.round, self.attempt)?;
-        self.own = Own::Write(OwnWrite { work });
+        let block = self.block(alloc)?;
+        self.set_block(block);
         Ok(Content::Set)
+    }
+
+    /// The block of a write whose children were all handed out, and each told its pointer. `None` where one hasn't, and
+    /// for want of memory.
+    pub fn block_ahead(&self, alloc: Global) -> Option<Block>
+        requires handed { self.now.kids.kids.handed ≡ length self.now.kids.kids.kids }
+        requires sound { IsSoundWrite (length self.now.kids.kids.kids + length self.now.kids.kids.kept)
+            self.now.waiting }
+        requires valid { HaveValidPointers self.now.kids.kids }
+        ensures { IfSome result (IsBlockAhead self.now) }
+    {
+        if !self.kids.kids().all_told() {
+            return None;
+        }
+        match self.block(alloc) {
+            Ok(block) => Some(block),
+            Err(NoMemory) => None,
+        }
+    }
+
+    /// The block of a write whose children all told their pointers: its content, and the sum of that.
+    fn block(&self, alloc: Global) -> Result<Block, NoMemory>
+        requires told { HaveAllTold self.now.kids.kids }
+        requires sound { IsSoundWrite (length self.now.kids.kids.kids + length self.now.kids.kids.kept)
+            self.now.waiting }
+        requires valid { HaveValidPointers self.now.kids.kids }
+        ensures { IfOk result (IsBlockAhead self.now) }
+    {
+        let kids = self.kids.kids();
+        let work = block_of(alloc, &self.waiting, kids, self.round, self.attempt)?;
+        Ok(Block { work })
+    }
+
+    /// Sets the content of a write to what was reckoned of it before.
+    pub fn set_block(&mut self, block: Block)
+        requires due { self.old.own ≡ Own.Due }
+        requires fits { IsBlockAhead self.old block }
+        ensures set { (t : Terms) (st : Stack) → IsRequestNode t self.old st → IsRequestNode t self.new st }
+        ensures over { (tops : Seq SeenTop) → IsOwnOver tops self.old.own self.old.family
+            → IsOwnOver tops self.new.own self.new.family }
+        ensures begun { IsBegunWrite self.new.own }
+        ensures rest { self.new ≡ with_own self.old self.new.own self.old.family }
+    {
+        let Block { work } = block;
+        self.own = Own::Write(OwnWrite { work });
     }
 
     /// Whether a write can tell its pointer, once its block's places were asked for and its members handed out.

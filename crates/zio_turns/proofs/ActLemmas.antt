@@ -13,9 +13,9 @@ use Rattle.slab.specs.Slab.{Slab, Updates, get, with_value}
 use Rattle.slab.proofs.SlabLemmas.{ContainsKey-within, Updates-set, Updates-with_value}
 use Rattle.zio_exchange.specs.declared.waiting.UnfinishedRequest.{UnfinishedRequest}
 use Rattle.zio_turns.specs.Acts.{AreCounted, AreStalled, HasAdded, HasGrown, HasHeard, HasWaited, StepIn, counting, new_ties, one_more, step_told, with_ties}
-use Rattle.zio_turns.specs.Entries.{OneMore, OneMoreIf}
-use Rattle.zio_turns.specs.Parts.{Nodes}
-use Rattle.zio_turns.specs.Stages.{heard_max}
+use Rattle.zio_staged.specs.Entries.{OneMore, OneMoreIf}
+use Rattle.zio_staged.specs.Parts.{Nodes}
+use Rattle.zio_staged.specs.Stages.{heard_max}
 use Rattle.zio_turns.specs.declared.entry.TiedNode.{TiedNode}
 use Rattle.zio_turns.specs.declared.entry.Parent.{Parent as Above}
 use Rattle.zio_turns.specs.declared.entry.Parent.TheVariants.{Node, Tree}

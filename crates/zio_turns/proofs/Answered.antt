@@ -8,11 +8,11 @@ use Rattle.zio_frames.specs.Frames.{Stack, fresh_stack}
 use Rattle.zio_frames.specs.Moves.{done_at_once}
 use Rattle.slab.specs.Slab.{Slab, Updates, get}
 use Rattle.zio_turns.specs.Acts.{with_ties}
-use Rattle.zio_turns.specs.Entries.{live_of, times_in}
-use Rattle.zio_turns.specs.Parts.{Nodes}
+use Rattle.zio_staged.specs.Entries.{live_of, times_in}
+use Rattle.zio_staged.specs.Parts.{Nodes}
 use Rattle.zio_turns.specs.Rounds.{ComesBack, IsAtLeaf, KeepsRound, with_images}
 use Rattle.zio_turns.specs.Slabs.{held_of, shelf_of}
-use Rattle.zio_turns.specs.Stages.{ShowsAnswer}
+use Rattle.zio_staged.specs.Stages.{ShowsAnswer}
 use Rattle.zio_turns.specs.declared.entry.TiedNode.{TiedNode}
 use Rattle.zio_turns.proofs.Finds.{leaf_held}
 use Rattle.zio_turns.proofs.Lives.{first_at}

@@ -19,7 +19,7 @@ use Rattle.zio_frames.specs.Seats.{asked_at}
 use Rattle.zio_frames.specs.Slots.{AllHeard, Heard, IsOut, Slot, left_behind_slots, told_in}
 use Rattle.zio_frames.proofs.GetLemmas.{get_either, get_exchanged, get_last, get_set}
 use Rattle.zio_turns.specs.Attempting.{Course, IsAttempting, IsBetween, again_with, attempt_of, course_of, rest_from, rest_of, settled_behind, settled_with}
-use Rattle.zio_turns.specs.Parts.{ended_by, ended_in, ended_in_slot}
+use Rattle.zio_staged.specs.Parts.{ended_by, ended_in, ended_in_slot}
 use Rattle.zio_turns.proofs.Links.{some_is}
 
 -- ---- programs

@@ -14,8 +14,8 @@ use Rattle.slab.specs.Slab.{Slab}
 use Rattle.zio_exchange.specs.Wholes.{AreTrees, IsTreeOf}
 use Rattle.zio_exchange.specs.declared.waiting.UnfinishedRequest.{UnfinishedRequest}
 use Rattle.zio_turns.specs.Attempting.{Course, attempt_of, course_of}
-use Rattle.zio_turns.specs.Entries.{all_tops, handed_on, top_at}
-use Rattle.zio_turns.specs.Parts.{Nodes}
+use Rattle.zio_staged.specs.Entries.{all_tops, handed_on, top_at}
+use Rattle.zio_staged.specs.Parts.{Nodes}
 use Rattle.zio_turns.specs.Rounds.{first_of, with_tree}
 use Rattle.zio_turns.specs.Slabs.{AreAll}
 use Rattle.zio_turns.specs.UnderTrees.{BeginsOn, FreshAt, HaveBegun, IsFreshFor, IsInState, TreesBegin}

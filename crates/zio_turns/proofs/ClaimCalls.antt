@@ -15,13 +15,13 @@ use Rattle.zio_frames.specs.Frames.{Stack}
 use Rattle.zio_frames.specs.Moves.{Chose, Closed, Did, DoesAll, Opened, Took, choices_of}
 use Rattle.slab.specs.Slab.{Slab, get}
 use Rattle.zio_exchange.specs.SpaceCalls.{Claimed, SpaceCall, calls_back, calls_by}
-use Rattle.zio_turns.specs.Parts.{Nodes}
+use Rattle.zio_staged.specs.Parts.{Nodes}
 use Rattle.zio_turns.specs.Rounds.{AsksRightly, Before, ClaimsAlone, SoFar, choices_in, IsTurn}
 use Rattle.zio_turns.specs.Slabs.{shelf_of}
-use Rattle.zio_turns.specs.Stages.{IsMove, IsNow}
+use Rattle.zio_staged.specs.Stages.{IsMove, IsNow}
 use Rattle.zio_turns.specs.declared.entry.TiedNode.{TiedNode}
-use Rattle.zio_turns.specs.declared.staged.Move.{Move}
-use Rattle.zio_turns.specs.declared.staged.Move.TheVariants.{End, Grow, Leaf as ToLeaf, Next, Ready, Wait}
+use Rattle.zio_staged.specs.declared.staged.Move.{Move}
+use Rattle.zio_staged.specs.declared.staged.Move.TheVariants.{End, Grow, Leaf as ToLeaf, Next, Ready, Wait}
 use Rattle.zio_turns.proofs.Callings.{choices_did}
 use Rattle.zio_turns.proofs.DoesLemmas.{append_none}
 use Rattle.zio_turns.proofs.ClaimLedger.{none_for, turns_first}
@@ -34,7 +34,7 @@ use Rattle.zio_turns.proofs.RoundNodes.{IsThere, it_is_there}
 use Rattle.zio_turns.specs.Claims.{one_for}
 use Rattle.zio_turns.specs.Desks.{GivesLast, MayAsk, backs_in, claims_asked}
 use Rattle.zio_turns.specs.Desks.MayAsk.{Backs, Claims, Places}
-use Rattle.zio_turns.specs.Entries.{live_of}
+use Rattle.zio_staged.specs.Entries.{live_of}
 
 -- what is given back is no claim
 none_claimed : (gone : List Place) (places : List Place) (free : Bool) → Contains (calls_back gone) (Claimed places free) → ⊥

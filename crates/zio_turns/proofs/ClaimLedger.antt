@@ -15,7 +15,7 @@ use Rattle.zio_frames.specs.Moves.{set_at, set_in_inner}
 use Rattle.zio_frames.specs.Running.{settling_from}
 use Rattle.zio_frames.specs.Slots.{Slot}
 use Rattle.zio_turns.specs.Claims.{ClaimsOnce, IsNoSettle, LeavesNothing, one_for, turn_left, turn_of, turn_of_live, turn_of_tree, turns_in, turns_of_trees}
-use Rattle.zio_turns.specs.Entries.{Live, all_tops}
+use Rattle.zio_staged.specs.Entries.{Live, all_tops}
 use Rattle.zio_turns.proofs.ClaimTurns.{IsAlone}
 
 pub turns_first : (x : Live) (lives : List Live) → turns_in (x ∷ lives) ≡ turn_of x.stack + turns_in lives

@@ -28,9 +28,9 @@ use Rattle.slab.specs.Slab.{Slab}
 use Rattle.zio_turns.specs.Attempting.{IsSettle}
 use Rattle.zio_turns.specs.Claims.{ClaimsOnce, IsNoSettle, LeavesNothing, none_asked, one_for, turn_left, turn_of, turn_of_tree}
 use Rattle.zio_turns.specs.Desks.{claims_asked, claims_in}
-use Rattle.zio_turns.specs.Entries.{Live, handed_on, live_of, new_flying}
+use Rattle.zio_staged.specs.Entries.{Live, handed_on, live_of, new_flying}
 use Rattle.zio_turns.specs.Ledgers.{IsOfTree}
-use Rattle.zio_turns.specs.Parts.{Nodes}
+use Rattle.zio_staged.specs.Parts.{Nodes}
 use Rattle.zio_turns.specs.Rounds.{Before, SoFar}
 use Rattle.zio_turns.specs.Slabs.{shelf_of}
 use Rattle.zio_turns.specs.declared.entry.TiedNode.{TiedNode}

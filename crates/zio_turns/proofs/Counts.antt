@@ -11,7 +11,7 @@ use Rattle.zio_counts.specs.Tallies.{Tally, cleared_if, count_end, counted, is_l
 use Rattle.zio_frames.specs.Frames.{Child, Seat, needs_none}
 use Rattle.zio_frames.specs.Moves.{child_ended, child_told}
 use Rattle.zio_trace.specs.Keys.{bit}
-use Rattle.zio_turns.specs.Entries.{CountsAre, count_owing, owes, owing}
+use Rattle.zio_staged.specs.Entries.{CountsAre, count_owing, owes, owing}
 
 -- ---- the children
 

@@ -8,9 +8,11 @@ use Rattle.zio_trace.specs.SoundRounds.{IsSoundRound}
 use Rattle.zio_exchange.specs.declared.outcome.FinishedRequest.{FinishedRequest}
 use Rattle.zio_exchange.specs.declared.outcome.Outcome.{Outcome}
 use Rattle.slab.specs.Slab.{Slab}
-use Rattle.zio_turns.specs.Parts.{Nodes}
-use Rattle.zio_turns.specs.Rounds.{Before, HasTurn, SoFar, with_images}
-use Rattle.zio_turns.specs.Slabs.{AreAll, left_over}
+use Rattle.zio_staged.specs.Parts.{Nodes}
+use Rattle.zio_turns.specs.AtLeaves.{keys_at}
+use Rattle.zio_turns.specs.Helping.{StaysKept}
+use Rattle.zio_turns.specs.Rounds.{Before, IsTurn, SoFar, with_images}
+use Rattle.zio_turns.specs.Slabs.{AreAll, left_over, load}
 use Rattle.zio_turns.specs.UnderTurns.{AfterTurn, AreSameGrounds, GoesOnSome, HasEndedFor, HasGoneOn, HasTurned, IsDone, IsGoingOn, IssuesOn, RunsOn, TurnsOn, work_left}
 use Rattle.zio_turns.specs.declared.desk.Desk.{Desk}
 use Rattle.zio_turns.specs.declared.entry.TiedNode.{TiedNode}
@@ -36,13 +38,14 @@ module _ {N D : Type 0} (nodes : Nodes N) (bytes faults : D → ℕ) (image : D 
 
   -- another key is in front
   pub going_taken : (slab slab_now : Slab (TiedNode N)) (line line_now : List ℕ) (key : ℕ) (g : Grounds D)
-      → HasTurn {N = N} nodes slab line slab_now line_now key → (t : Terms) (sizes : ℕ → ℕ) (f : Forest) (before : Before) (s : SoFar)
+      → StaysKept {N = N} nodes slab line slab_now (key ∷ line_now) → (t : Terms) (sizes : ℕ → ℕ) (f : Forest) (before : Before)
+      (s : SoFar) → IsSoundRound t sizes f
       → Going t sizes f before s slab line g → Going t sizes f before s slab_now (key ∷ line_now) g
-  going_taken slab slab_now line line_now key g turn t sizes f before s h =
-      record { keeps = turn t sizes f before s _ h.keeps; lent = h.lent }
+  going_taken slab slab_now line line_now key g turn t sizes f before s sound h =
+      record { keeps = turn t sizes f before s _ sound h.keeps; lent = h.lent }
 
   pub some_taken : (slab slab_now : Slab (TiedNode N)) (line line_now : List ℕ) (key : ℕ) (g : Grounds D)
-      → HasTurn {N = N} nodes slab line slab_now line_now key → GoesOnSome {N = N} {D = D} nodes bytes image slab line g
+      → StaysKept {N = N} nodes slab line slab_now (key ∷ line_now) → GoesOnSome {N = N} {D = D} nodes bytes image slab line g
       → GoesOnSome {N = N} {D = D} nodes bytes image slab_now (key ∷ line_now) g
   some_taken slab slab_now line line_now key g turn some = record {
     terms = some.terms;
@@ -51,7 +54,8 @@ module _ {N D : Type 0} (nodes : Nodes N) (bytes faults : D → ℕ) (image : D 
     before = some.before;
     so_far = some.so_far;
     sound = some.sound;
-    going = going_taken slab slab_now line line_now key g turn some.terms some.sizes some.forest some.before some.so_far some.going;
+    going = going_taken slab slab_now line line_now key g turn some.terms some.sizes some.forest some.before some.so_far some.sound
+        some.going;
   }
 
   -- ---- from the first
@@ -124,15 +128,16 @@ module _ {N D : Type 0} (nodes : Nodes N) (bytes faults : D → ℕ) (image : D 
 
     module _ (slab slab_mid slab_now : Slab (TiedNode N)) (line line_mid line_now : List ℕ) (g now : Grounds D) (h : HaveRun slab line g) where
       -- a turn more
-      pub run_turned : {S : Type 0} (key : ℕ) (turned : Turned S) → HasTurn {N = N} nodes slab line slab_mid line_mid key
+      pub run_turned : {S : Type 0} (key : ℕ) (turned : Turned S) → StaysKept {N = N} nodes slab line slab_mid (key ∷ line_mid)
           → TurnsOn {N = N} {D = D} nodes bytes image slab_mid line_mid g slab_now line_now now key turned
           → RunsOn {N = N} {D = D} nodes bytes image first first_line lent slab_now line_now now turned
       run_turned key turned turn turns = λ t sizes f before s sound k.
           let so_far = h t sizes f before s sound k in
           then_any t sizes f before s so_far.now slab_now line_now now turned so_far.gone
-          (turns t sizes f before so_far.now sound (going_taken slab slab_mid line line_mid key g turn t sizes f before so_far.now so_far.going))
+          (turns t sizes f before so_far.now sound (going_taken slab slab_mid line line_mid key g turn t sizes f before so_far.now sound
+          so_far.going))
 
-      pub run_told_nothing : {S : Type 0} (key : ℕ) (turned : Turned S) → HasTurn {N = N} nodes slab line slab_mid line_mid key
+      pub run_told_nothing : {S : Type 0} (key : ℕ) (turned : Turned S) → StaysKept {N = N} nodes slab line slab_mid (key ∷ line_mid)
           → TurnsOn {N = N} {D = D} nodes bytes image slab_mid line_mid g slab_now line_now now key turned → turned ≡ Nothing
           → HaveRun slab_now line_now now
       run_told_nothing {S} key turned turn turns none =
@@ -187,22 +192,45 @@ module _ {N D : Type 0} (nodes : Nodes N) (bytes faults : D → ℕ) (image : D 
 
     module _ (slab slab_mid slab_now : Slab (TiedNode N)) (line line_mid line_now : List ℕ) (g now : Grounds D) (h : Driving slab line g) where
       -- the key in front
-      pub drive_taken : (key : ℕ) → HasTurn {N = N} nodes slab line slab_mid line_mid key
+      pub drive_taken : (key : ℕ) → StaysKept {N = N} nodes slab line slab_mid (key ∷ line_mid)
           → GoesOnSome {N = N} {D = D} nodes bytes image first first_line lent
           → GoesOnSome {N = N} {D = D} nodes bytes image slab_mid (key ∷ line_mid) g
       drive_taken key turn some =
           some_taken slab slab_mid line line_mid key g turn (run_some first first_line lent slab line g h.gone some)
 
+      -- it is its turn
+      pub drive_turn : (key : ℕ) (tops : List Top) → StaysKept {N = N} nodes slab line slab_mid (key ∷ line_mid) → slab_mid ≡ slab
+          → tops ≡ g.desk.tops → GoesOnSome {N = N} {D = D} nodes bytes image first first_line lent
+          → IsTurn {N = N} nodes over tops slab_mid line_mid key
+      drive_turn key tops turn same tops_same some =
+          let some_now = drive_taken key turn some in
+          record {
+            leaves = keys_at g.queues.leaves.items;
+            keeps = record {
+              terms = some_now.terms;
+              sizes = some_now.sizes;
+              forest = some_now.forest;
+              before = some_now.before;
+              so_far = some_now.so_far;
+              sound = some_now.sound;
+              tops_are = sym some_now.going.lent.desk.desk.tops_are ∙ sym tops_same;
+              keeps = some_now.going.keeps;
+            };
+            over_all = subst (λ (ts : List Top). AreAll {N = N} (over ts) slab_mid) (sym tops_same)
+                (subst (λ (x : Slab (TiedNode N)). AreAll {N = N} (over g.desk.tops) x) (sym same) h.over_all);
+          }
+
       -- with one key less a turn takes as much as it may
-      pub taken_less : slab_mid ≡ slab → length line_mid + 1 ≡ length line
+      pub taken_less : (slab_taken : Slab (TiedNode N)) (line_taken : List ℕ) → slab_taken ≡ slab → length line_taken + 1 ≡ length line
+          → load {N = N} nodes.left slab_mid line_mid ≤ load {N = N} nodes.left slab_taken line_taken
           → work_left {N = N} {D = D} nodes.left slab_now line_now now
           < work_left {N = N} {D = D} nodes.left slab_mid line_mid g + 1
           → work_left {N = N} {D = D} nodes.left slab_now line_now now < work_left {N = N} {D = D} nodes.left slab line g
-      taken_less same len less =
-          let e : left_over {N = N} nodes.left slab_mid ≡ left_over {N = N} nodes.left slab = ap (left_over {N = N} nodes.left) same in
-          omega (arith, less, len, e)
+      taken_less slab_taken line_taken same len helped less =
+          let e : left_over {N = N} nodes.left slab_taken ≡ left_over {N = N} nodes.left slab = ap (left_over {N = N} nodes.left) same in
+          omega (arith, less, len, helped, e)
 
-      pub drive_turned : {S : Type 0} (key : ℕ) (turned : Turned S) → HasTurn {N = N} nodes slab line slab_mid line_mid key
+      pub drive_turned : {S : Type 0} (key : ℕ) (turned : Turned S) → StaysKept {N = N} nodes slab line slab_mid (key ∷ line_mid)
           → TurnsOn {N = N} {D = D} nodes bytes image slab_mid line_mid g slab_now line_now now key turned → turned ≡ Nothing
           → AreAll {N = N} (over now.desk.tops) slab_now → AreSameGrounds {D = D} g now
           → work_left {N = N} {D = D} nodes.left slab_now line_now now < work_left {N = N} {D = D} nodes.left slab line g
@@ -217,7 +245,7 @@ module _ {N D : Type 0} (nodes : Nodes N) (bytes faults : D → ℕ) (image : D 
         less = omega (arith, less, h.less);
       }
 
-      pub drive_tells : {S : Type 0} (key : ℕ) (turned : Turned S) → HasTurn {N = N} nodes slab line slab_mid line_mid key
+      pub drive_tells : {S : Type 0} (key : ℕ) (turned : Turned S) → StaysKept {N = N} nodes slab line slab_mid (key ∷ line_mid)
           → TurnsOn {N = N} {D = D} nodes bytes image slab_mid line_mid g slab_now line_now now key turned
           → RunsOn {N = N} {D = D} nodes bytes image first first_line lent slab_now line_now now turned
       drive_tells key turned turn turns =

@@ -10,8 +10,8 @@ use Rattle.zio_frames.specs.Seats.{IsSeated}
 use Rattle.zio_frames.specs.Slots.{Slot}
 use Rattle.zio_frames.proofs.GetLemmas.{get_set}
 use Rattle.zio_turns.specs.Engine.{DoesFor, HasParent, Rests, Queued, AtLeaf, Stalls, counts_as_told, parent_in}
-use Rattle.zio_turns.specs.Entries.{Held, OfNode, Parent, heard_as, number_in, times_in, with_node}
-use Rattle.zio_turns.specs.Parts.{Nodes}
+use Rattle.zio_staged.specs.Entries.{Held, OfNode, Parent, heard_as, number_in, times_in, with_node}
+use Rattle.zio_staged.specs.Parts.{Nodes}
 use Rattle.zio_turns.proofs.Links.{Follows, HeldIn, Linked, World, children_go, goes_gone, goes_same, held_there, matches_free, matches_held, shelf_gone, shelf_kept, some_is}
 use Rattle.zio_turns.proofs.LinksHear.{ChildMoves, IsOwn}
 use Rattle.zio_turns.proofs.Seated.{none_below, place_set}

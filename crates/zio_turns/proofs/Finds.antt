@@ -9,9 +9,9 @@ use Rattle.zio_trace.specs.Underway.{State}
 use Rattle.zio_frames.specs.Frames.{Child, Flying, place_of}
 use Rattle.zio_frames.specs.Slots.{Slot}
 use Rattle.zio_turns.specs.Engine.{DoesFor, HasParent, IsKept}
-use Rattle.zio_turns.specs.Entries.{Held, Live, OfNode, OfTree, Parent, Shelf, flying_at, flying_of, live_of, OneMore, standing, times_in, top_at}
+use Rattle.zio_staged.specs.Entries.{Held, Live, OfNode, OfTree, Parent, Shelf, flying_at, flying_of, live_of, OneMore, standing, times_in, top_at}
 use Rattle.zio_turns.specs.Found.{IsChildOf, IsFound, IsParentFound, IsTreeFound}
-use Rattle.zio_turns.specs.Parts.{Nodes}
+use Rattle.zio_staged.specs.Parts.{Nodes}
 use Rattle.zio_turns.proofs.Kept.{all_flying, kept_fronted, kept_now, linked_as, running_as, world}
 use Rattle.zio_turns.proofs.Links.{HeldIn, free_there, held_there, in_flight_there, on_shelf_there, some_is}
 use Rattle.zio_turns.proofs.Lives.{Fronted, first_at, other_at, to_front}

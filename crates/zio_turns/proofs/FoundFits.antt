@@ -20,9 +20,9 @@ use Rattle.zio_frames.specs.Slots.{Slot}
 use Rattle.zio_frames.proofs.HeardParts.{child_does, lies_at, value_of_node}
 use Rattle.zio_turns.specs.Claims.{turn_of}
 use Rattle.zio_turns.specs.Engine.{IsKept}
-use Rattle.zio_turns.specs.Entries.{Held, Live, OfNode, OfTree, Shelf, live_of, top_at}
+use Rattle.zio_staged.specs.Entries.{Held, Live, OfNode, OfTree, Shelf, live_of, top_at}
 use Rattle.zio_turns.specs.Found.{DoesAsked}
-use Rattle.zio_turns.specs.Parts.{Nodes}
+use Rattle.zio_staged.specs.Parts.{Nodes}
 use Rattle.zio_turns.proofs.DoesLemmas.{takes_all, turns_all}
 use Rattle.zio_turns.proofs.HearLemmas.{IsChild}
 use Rattle.zio_turns.proofs.Kept.{all_flying, one_forward, running_as}

@@ -20,13 +20,13 @@ use Rattle.slab.specs.Slab.{Slab}
 use Rattle.zio_turns.specs.AtLeaves.{AllWait, AreDone, AreIssued, WaitForAll, WaitsFor, key_of, keys_at, keys_in, waiting_at}
 use Rattle.zio_turns.specs.Desks.{IsDeskAt}
 use Rattle.zio_turns.specs.Engine.{Matches, Rests}
-use Rattle.zio_turns.specs.Entries.{Held, Shelf, flying_at, times_in, top_at}
+use Rattle.zio_staged.specs.Entries.{Held, Shelf, flying_at, times_in, top_at}
 use Rattle.zio_turns.specs.Grounds.{AreReady}
-use Rattle.zio_turns.specs.Parts.{Nodes}
+use Rattle.zio_staged.specs.Parts.{Nodes}
 use Rattle.zio_turns.specs.Rounds.{Before, ComesBack, IsAtLeaf, KeepsRound, SoFar, with_images}
 use Rattle.zio_turns.specs.Sizes.{HasAskedSize}
 use Rattle.zio_turns.specs.Slabs.{AreAll, load, shelf_of}
-use Rattle.zio_turns.specs.Stages.{ShowsAnswer}
+use Rattle.zio_staged.specs.Stages.{ShowsAnswer}
 use Rattle.zio_turns.specs.UnderTurns.{AreAtLeaves, AreLent, ComeBack, FitDisks, GiveAnswers, GoesOnSome, IssuesOn, TellNow, keys_answered}
 use Rattle.zio_turns.specs.declared.desk.Desk.{Desk}
 use Rattle.zio_turns.specs.declared.entry.TiedNode.{TiedNode}

@@ -17,8 +17,8 @@ use Rattle.zio_groups.proofs.GroupLemmas.{members_apart, span_some}
 use Rattle.zio_trace.specs.Leaves.{Fetch, LeafOp, Store, answer_of, on_leaf}
 use Rattle.zio_exchange.specs.LeafOps.{IsOpAt}
 use Rattle.zio_turns.specs.AtLeaves.{AreDone, AreIssued, WaitForAll, WaitsFor, key_of, keyed, keys_at, keys_in, keys_of, no_waits}
-use Rattle.zio_turns.specs.Entries.{times_in}
-use Rattle.zio_turns.specs.Stages.{ShowsAnswer}
+use Rattle.zio_staged.specs.Entries.{times_in}
+use Rattle.zio_staged.specs.Stages.{ShowsAnswer}
 use Rattle.zio_turns.proofs.KeyTimes.{here_set, others_set, times_one, times_set}
 use Rattle.zio_turns.proofs.TakenKeys.{keys_leave, once_apart, still_among}
 

@@ -11,7 +11,7 @@ use Rattle.zio_types.specs.Places.{sector_size}
 use Rattle.zio_groups.specs.declared.waiting.QueuedOp.{QueuedOp}
 use Rattle.zio_trace.specs.Leaves.{Answer, Fetch, LeafOp, LiesOn, Store, answer_of, spot_of}
 use Rattle.zio_exchange.specs.LeafOps.{IsOpAt, IsOpFor}
-use Rattle.zio_turns.specs.Stages.{ShowsAnswer}
+use Rattle.zio_staged.specs.Stages.{ShowsAnswer}
 use Rattle.zio_turns.specs.ShortTops.{AreShort, EndsWithTops}
 use Rattle.zio_turns.specs.AtLeaves.{WaitForAll, WaitsFor, keyed, put_as}
 

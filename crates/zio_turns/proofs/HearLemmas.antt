@@ -4,7 +4,7 @@ use Rattle.zio_types.specs.declared.request.ChildKind.{ChildKind}
 use Rattle.zio_types.specs.declared.request.ChildKind.TheVariants.{Vdev, Gang, Logical}
 use Rattle.zio_frames.specs.Frames.{Child, Flying, place_of, needs_none}
 use Rattle.zio_turns.specs.Engine.{DoesFor, HasParent, counts_as_told, parent_in}
-use Rattle.zio_turns.specs.Entries.{Parent, number_in}
+use Rattle.zio_staged.specs.Entries.{Parent, number_in}
 use Rattle.zio_turns.proofs.Links.{some_is}
 
 -- the child that it does for

@@ -11,7 +11,7 @@ use Rattle.zio_trace.specs.SoundRounds.{IsSoundRound}
 use Rattle.zio_exchange.specs.declared.outcome.FinishedRequest.{FinishedRequest}
 use Rattle.zio_exchange.specs.declared.outcome.Outcome.{Outcome}
 use Rattle.slab.specs.Slab.{Slab}
-use Rattle.zio_turns.specs.Parts.{Nodes}
+use Rattle.zio_staged.specs.Parts.{Nodes}
 use Rattle.zio_turns.specs.Rounds.{Before, SoFar}
 use Rattle.zio_turns.specs.Slabs.{AreAll}
 use Rattle.zio_turns.specs.UnderTurns.{EndsFinished, GoesOnSome, HasEndedFor, HasTurned, IsGoingOn, RunsOn, RunsToTree}

@@ -9,7 +9,7 @@ use Rattle.zio_counts.specs.Tallies.{first_counted, notified, stalled}
 use Rattle.zio_exchange.specs.declared.outcome.Outcome.{Outcome}
 use Rattle.slab.specs.Slab.{Slab, Updates}
 use Rattle.zio_turns.specs.Acts.{HasEnded, HasGrown, HasTold, HasWaited, counting, new_ties, one_more, with_ties}
-use Rattle.zio_turns.specs.Parts.{Nodes}
+use Rattle.zio_staged.specs.Parts.{Nodes}
 use Rattle.zio_turns.specs.Slabs.{AreAll}
 use Rattle.zio_turns.specs.declared.entry.TiedNode.{TiedNode}
 use Rattle.zio_turns.specs.declared.entry.Parent.{Parent as Above}

@@ -11,8 +11,8 @@ use Rattle.zio_frames.specs.Running.{IsRunning, Later}
 use Rattle.zio_frames.specs.Slots.{Slot}
 use Rattle.zio_frames.proofs.Moved.{order_kept}
 use Rattle.zio_turns.specs.Engine.{AreLinked, IsKept, StillKept, TreesStand}
-use Rattle.zio_turns.specs.Entries.{KeysDiffer, Live, Shelf, flying_at, flying_of, live_of, standing, top_at}
-use Rattle.zio_turns.specs.Parts.{Nodes}
+use Rattle.zio_staged.specs.Entries.{KeysDiffer, Live, Shelf, flying_at, flying_of, live_of, standing, top_at}
+use Rattle.zio_staged.specs.Parts.{Nodes}
 use Rattle.zio_turns.proofs.Links.{Linked, World}
 use Rattle.zio_turns.proofs.Lives.{Fronted}
 

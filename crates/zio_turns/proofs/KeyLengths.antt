@@ -3,7 +3,7 @@ use Rattle.std.proofs.Common.{◌≡◌, ℕ, suc, ◌+◌, ◌<◌, List, [], �
 use Rattle.zio_trace.specs.Keys.{bit}
 use Rattle.zio_trace.specs.Labels.{same_number}
 use Rattle.zio_trace.proofs.LabelLemmas.{number_is, number_itself}
-use Rattle.zio_turns.specs.Entries.{OneMore, times_in}
+use Rattle.zio_staged.specs.Entries.{OneMore, times_in}
 use Rattle.zio_turns.proofs.KeyTimes.{times_append}
 
 record IsWithout (x : ℕ) (ys : List ℕ) : Type 0 where

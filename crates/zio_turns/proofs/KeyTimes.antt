@@ -10,7 +10,7 @@ use Rattle.zio_trace.specs.Keys.{bit}
 use Rattle.zio_trace.specs.Labels.{same_number}
 use Rattle.zio_trace.proofs.LabelLemmas.{number_is, number_itself}
 use Rattle.zio_turns.specs.AtLeaves.{AreInOrder, IsIdle, IsPut, key_of, keys_at, keys_in, keys_of, no_waits, waiting_at}
-use Rattle.zio_turns.specs.Entries.{times_in}
+use Rattle.zio_staged.specs.Entries.{times_in}
 use Rattle.zio_turns.proofs.Queues.{number_other}
 
 pub times_append : (key : ℕ) (xs ys : List ℕ) → times_in key (xs ++ ys) ≡ times_in key xs + times_in key ys

@@ -9,7 +9,7 @@ use Rattle.zio_groups.specs.declared.waiting.Answered.{Answered}
 use Rattle.zio_groups.specs.declared.waiting.QueuedOp.{QueuedOp}
 use Rattle.zio_groups.specs.LeafQueues.{IsIssued, Waits, ops_of, waiting_with}
 use Rattle.zio_turns.specs.AtLeaves.{AreInOrder, AreIssued, IsPut, key_of, keyed, keys_at, keys_in, keys_of, no_waits, put_as, waiting_at}
-use Rattle.zio_turns.specs.Entries.{times_in}
+use Rattle.zio_staged.specs.Entries.{times_in}
 use Rattle.zio_turns.proofs.GroupsDone.{group_done}
 use Rattle.zio_turns.proofs.KeyTimes.{not_queued, order_fewer, order_put, put_done, times_one, times_set}
 

@@ -6,7 +6,7 @@ use Rattle.zio_trace.proofs.LabelLemmas.{number_itself}
 use Rattle.zio_trace.specs.Tasks.{Leaf}
 use Rattle.zio_frames.specs.Frames.{Child, Flying, Stack, fresh_stack}
 use Rattle.zio_frames.proofs.GetLemmas.{same_or_not}
-use Rattle.zio_turns.specs.Entries.{IsWith, OneMore, times_in}
+use Rattle.zio_staged.specs.Entries.{IsWith, OneMore, times_in}
 use Rattle.zio_turns.specs.Rounds.{DoTheirs, op_set}
 use Rattle.zio_turns.proofs.Links.{some_is}
 use Rattle.zio_turns.proofs.Queues.{more_other, more_there, number_other}

@@ -20,9 +20,9 @@ use Rattle.zio_frames.specs.Frames.{Flying, Stack, fresh_stack}
 use Rattle.zio_frames.specs.Moves.{IsEnded}
 use Rattle.zio_frames.specs.Running.{settling_from}
 use Rattle.zio_frames.proofs.GetLemmas.{get_exchanged}
-use Rattle.zio_turns.specs.Entries.{Live, all_tops, live_of, new_flying}
+use Rattle.zio_staged.specs.Entries.{Live, all_tops, live_of, new_flying}
 use Rattle.zio_turns.specs.Ledgers.{AreBehindChildren, Ending, IsEnding, KeepsChildren, all_ended}
-use Rattle.zio_turns.specs.Parts.{ended_by}
+use Rattle.zio_staged.specs.Parts.{ended_by}
 use Rattle.zio_turns.specs.Rests.{ChildrenAmong, HasRests, HasRestsIn, HaveRests, LeavesRests, numbers_ended}
 use Rattle.zio_turns.proofs.Links.{some_is}
 use Rattle.zio_turns.proofs.RestLemmas.{EndLeaves, IsAmong, has_more}

@@ -24,9 +24,9 @@ use Rattle.zio_exchange.specs.Outcomes.{found_in as found_by_value, held_by, pla
 use Rattle.zio_exchange.specs.WithinParts.{IsDoneWithin, OpensWithin}
 use Rattle.zio_exchange.specs.SpaceCalls.{SpaceCall, call_by, calls_by}
 use Rattle.zio_turns.specs.Desks.{found_in}
-use Rattle.zio_turns.specs.Parts.{ended_by, ended_in, ended_in_slot}
+use Rattle.zio_staged.specs.Parts.{ended_by, ended_in, ended_in_slot}
 use Rattle.zio_turns.specs.Rests.{HasRests}
-use Rattle.zio_turns.specs.Stages.{AreHandedOut}
+use Rattle.zio_staged.specs.Stages.{AreHandedOut}
 use Rattle.zio_turns.proofs.DeskLemmas.{found_both}
 use Rattle.zio_turns.proofs.LedgerPerms.{set_same}
 use Rattle.zio_turns.proofs.Links.{some_is}

@@ -31,7 +31,7 @@ use Rattle.zio_exchange.specs.declared.outcome.FinishedRequest.{FinishedRequest}
 use Rattle.zio_exchange.specs.declared.outcome.Outcome.{Outcome}
 use Rattle.zio_exchange.specs.declared.outcome.Outcome.TheVariants.{Again, Finished as HasFinished, Found, Stored, Walked}
 use Rattle.zio_turns.specs.Ledgers.{AreBehind, AreToldAs, Ending, IsEnding, all_ended, freed_in, made_in}
-use Rattle.zio_turns.specs.Parts.{Nodes, ended_by, ended_in}
+use Rattle.zio_staged.specs.Parts.{Nodes, ended_by, ended_in}
 use Rattle.zio_turns.specs.Rounds.{finished_in}
 use Rattle.zio_turns.proofs.Links.{some_is}
 use Rattle.zio_turns.proofs.PlaceTotals.{totals_moved}

@@ -11,7 +11,7 @@ use Rattle.zio_frames.specs.Moves.{Chose, Closed, Did, Does, DoesAll, Opened, To
 use Rattle.zio_frames.specs.Slots.{Heard, IsOut, Slot}
 use Rattle.zio_frames.proofs.GetLemmas.{get_either, get_last, get_more, get_other, get_set, same_or_not}
 use Rattle.zio_exchange.specs.WithinParts.{IsDoneWithin, OpensWithin}
-use Rattle.zio_turns.specs.Stages.{AreHandedOut, IsChildsSeat, IsHandedOut}
+use Rattle.zio_staged.specs.Stages.{AreHandedOut, IsChildsSeat, IsHandedOut}
 use Rattle.zio_turns.proofs.Links.{some_is}
 
 -- what is done within is nothing that is handed out

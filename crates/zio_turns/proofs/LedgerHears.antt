@@ -20,10 +20,10 @@ use Rattle.zio_frames.proofs.RoundFrames.{asked_of_round}
 use Rattle.zio_exchange.specs.Outcomes.{IsOutcome, held_by, places_by, places_in}
 use Rattle.zio_exchange.specs.declared.outcome.Outcome.{Outcome}
 use Rattle.zio_turns.specs.Claims.{turn_of}
-use Rattle.zio_turns.specs.Parts.{ended_by, ended_in, ended_in_slot}
+use Rattle.zio_staged.specs.Parts.{ended_by, ended_in, ended_in_slot}
 use Rattle.zio_turns.specs.Rests.{HasRests, HasRestsIn, LeavesRests, SlotsRest}
 use Rattle.zio_turns.specs.Sizes.{HasSizes, IsSizedAs}
-use Rattle.zio_turns.specs.Stages.{AreHandedOut}
+use Rattle.zio_staged.specs.Stages.{AreHandedOut}
 use Rattle.zio_turns.proofs.ClaimLedger.{set_op, set_turn}
 use Rattle.zio_turns.proofs.LedgerDids.{InnerStands, Stands, ended_more, places_heard, places_more, places_told}
 use Rattle.zio_turns.proofs.LedgerEnds.{quiet_value}

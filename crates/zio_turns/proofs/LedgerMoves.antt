@@ -30,13 +30,13 @@ use Rattle.slab.specs.Slab.{Slab}
 use Rattle.zio_turns.specs.Attempting.{IsSettle}
 use Rattle.zio_turns.specs.Claims.{ClaimsOnce}
 use Rattle.zio_turns.specs.Desks.{backs_in, choices_in, claims_in, found_in, taken_by_all}
-use Rattle.zio_turns.specs.Entries.{Live, all_tops, live_of, new_flying}
+use Rattle.zio_staged.specs.Entries.{Live, all_tops, live_of, new_flying}
 use Rattle.zio_turns.specs.Ledgers.{AreBehind, Books, Ending, IsEnding, IsLedger, IsOfTree, all_ended, ended_of_top, ended_of_tree, ended_of_trees, ended_with, found_so_far, freed_for, freed_in, gave_over, held_over, made_for, made_in, no_books}
-use Rattle.zio_turns.specs.Parts.{Nodes, ended_by, ended_in}
+use Rattle.zio_staged.specs.Parts.{Nodes, ended_by, ended_in}
 use Rattle.zio_turns.specs.Rests.{HasRests, HasRestsIn, numbers_ended}
 use Rattle.zio_turns.specs.Sizes.{FitsBodies, HasSizes}
 use Rattle.zio_turns.specs.Slabs.{left_in}
-use Rattle.zio_turns.specs.Stages.{AreHandedOut}
+use Rattle.zio_staged.specs.Stages.{AreHandedOut}
 use Rattle.zio_turns.specs.declared.entry.TiedNode.{TiedNode}
 use Rattle.zio_turns.proofs.ClaimLedger.{first_ends, lives_order, second_same, tree_change}
 use Rattle.zio_turns.proofs.DeskLemmas.{found_both, split_in}

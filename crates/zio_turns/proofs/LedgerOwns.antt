@@ -23,8 +23,8 @@ use Rattle.zio_exchange.specs.Outcomes.{freed_by, freed_if, freed_of, freed_with
 use Rattle.zio_exchange.specs.declared.outcome.Outcome.{Outcome}
 use Rattle.zio_exchange.specs.declared.outcome.Outcome.TheVariants.{Again, Finished as HasFinished, Found, Stored, Walked}
 use Rattle.zio_exchange.specs.declared.outcome.FinishedRequest.{FinishedRequest}
-use Rattle.zio_turns.specs.Parts.{Nodes}
-use Rattle.zio_turns.specs.Stages.{AreItsOwn, may_free}
+use Rattle.zio_staged.specs.Parts.{Nodes}
+use Rattle.zio_staged.specs.Stages.{AreItsOwn, may_free}
 
 -- each node gives back its own alone
 abbrev pub GivesOwn : {N : Type 0} → Nodes N → Type 0

@@ -5,9 +5,9 @@ use Rattle.std.specs.List.{flat_map}
 use Rattle.std.proofs.lemmas.List.Sorted.{IsPermutation-append_comm, IsPermutation-append_left, IsPermutation-append_right, IsPermutation-refl, IsPermutation-sym, IsPermutation-trans}
 use Rattle.zio_gang.specs.Attempts.{Ended}
 use Rattle.zio_frames.proofs.PermLemmas.{flat_permuted, swap_fronts}
-use Rattle.zio_turns.specs.Entries.{Live}
+use Rattle.zio_staged.specs.Entries.{Live}
 use Rattle.zio_turns.specs.Ledgers.{ended_with}
-use Rattle.zio_turns.specs.Parts.{ended_in}
+use Rattle.zio_staged.specs.Parts.{ended_in}
 use Rattle.zio_turns.proofs.Links.{some_is}
 
 -- two lists that are the same stand in any order

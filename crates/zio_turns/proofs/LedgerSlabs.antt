@@ -5,7 +5,7 @@ use Rattle.zio_places.specs.Tables.{total}
 use Rattle.zio_places.proofs.PlaceLemmas.{total-append}
 use Rattle.slab.specs.Slab.{Slab, Updates, get}
 use Rattle.zio_turns.specs.Ledgers.{gave_over}
-use Rattle.zio_turns.specs.Parts.{Nodes}
+use Rattle.zio_staged.specs.Parts.{Nodes}
 use Rattle.zio_turns.specs.declared.entry.TiedNode.{TiedNode}
 use Rattle.zio_turns.proofs.Loads.{left_gone, left_new, left_put}
 

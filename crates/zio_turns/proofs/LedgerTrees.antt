@@ -10,9 +10,9 @@ use Rattle.zio_frames.specs.Seats.{asked_at, asked_in_inner}
 use Rattle.zio_frames.proofs.GetLemmas.{get_either}
 use Rattle.zio_exchange.specs.Outcomes.{places_by}
 use Rattle.zio_turns.specs.Engine.{TreesStand}
-use Rattle.zio_turns.specs.Entries.{top_at}
+use Rattle.zio_staged.specs.Entries.{top_at}
 use Rattle.zio_turns.specs.Ledgers.{IsOfTree}
-use Rattle.zio_turns.specs.Parts.{ended_by}
+use Rattle.zio_staged.specs.Parts.{ended_by}
 
 pub top_slice : (tops : List (Option Flying)) (n : ℕ) (x : Flying) → top_at tops n ≡ Some x → slice_get tops n ≡ Some (Some x)
 top_slice [] n x e = absurd (cc)

@@ -25,6 +25,8 @@ pub mod GroupsDone
 pub mod HandedLemmas
 pub mod HearLemmas
 pub mod HearingMoves
+pub mod HelpMoves
+pub mod Helps
 pub mod Insides
 pub mod Kept
 pub mod KeyLengths

@@ -4,8 +4,8 @@ use Rattle.zio_types.specs.declared.request.ChildKind.{ChildKind}
 use Rattle.zio_gang.specs.Attempts.{Terms}
 use Rattle.zio_frames.specs.Frames.{Child, Flying}
 use Rattle.zio_turns.specs.Engine.{AreLinked, ChildrenHeld, DoesFor, HasParent, IsHeld, IsHeldFor, Matches, Rests}
-use Rattle.zio_turns.specs.Entries.{Held, OfNode, OfTree, Parent, Shelf, times_in}
-use Rattle.zio_turns.specs.Parts.{Nodes}
+use Rattle.zio_staged.specs.Entries.{Held, OfNode, OfTree, Parent, Shelf, times_in}
+use Rattle.zio_staged.specs.Parts.{Nodes}
 
 -- what is in flight for the trees and under the keys, what is held under these, and what waits
 pub record World (N : Type 0) : Type 0 where

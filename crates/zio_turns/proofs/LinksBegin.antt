@@ -6,8 +6,8 @@ use Rattle.zio_frames.specs.Frames.{Flying, fresh_stack, kind_of_task, needs_non
 use Rattle.zio_frames.specs.Moves.{child_for, next_seat}
 use Rattle.zio_frames.proofs.GetLemmas.{same_or_not}
 use Rattle.zio_turns.specs.Engine.{ChildrenHeld, IsHeldFor}
-use Rattle.zio_turns.specs.Entries.{Held, IsWith, OfNode, OfTree, OneMore, handed_on, new_flying, new_held, times_in}
-use Rattle.zio_turns.specs.Parts.{Nodes}
+use Rattle.zio_staged.specs.Entries.{Held, IsWith, OfNode, OfTree, OneMore, handed_on, new_flying, new_held, times_in}
+use Rattle.zio_staged.specs.Parts.{Nodes}
 use Rattle.zio_turns.proofs.Links.{Follows, Goes, HeldIn, Linked, MatchesIn, ShelfGoes, World, children_go, free_there, goes_kept, goes_new, goes_same, matches_held, matches_still, shelf_new, shelf_same, some_is}
 use Rattle.zio_turns.proofs.LinksMove.{NoParent}
 use Rattle.zio_turns.proofs.LinksNew.{apart_more, children_more, does_new, keeps_handed, new_matches, none_yet}

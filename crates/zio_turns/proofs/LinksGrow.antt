@@ -8,8 +8,8 @@ use Rattle.zio_frames.specs.Frames.{Child, Flying, Stack, fresh_stack, kind_of_t
 use Rattle.zio_frames.specs.Moves.{child_for, handed, next_seat}
 use Rattle.zio_frames.proofs.GetLemmas.{same_or_not}
 use Rattle.zio_turns.specs.Engine.{ChildrenHeld, HasParent, IsHeldFor, Queued}
-use Rattle.zio_turns.specs.Entries.{AreWith, CountsAre, Held, OfNode, OfTree, OneMore, grown, handed_on, new_flying, new_held, times_in, with_stack}
-use Rattle.zio_turns.specs.Parts.{Nodes}
+use Rattle.zio_staged.specs.Entries.{AreWith, CountsAre, Held, OfNode, OfTree, OneMore, grown, handed_on, new_flying, new_held, times_in, with_stack}
+use Rattle.zio_staged.specs.Parts.{Nodes}
 use Rattle.zio_turns.proofs.Counts.{counts_raised, stall_raised}
 use Rattle.zio_turns.proofs.Links.{Follows, Goes, HeldIn, Keeps, Linked, MatchesIn, ShelfGoes, World, children_go, free_there, goes_kept, goes_new, goes_same, held_there, matches_held, matches_still, parent_goes, shelf_kept, shelf_new, shelf_same, some_is}
 use Rattle.zio_turns.proofs.LinksMove.{NoParent}

@@ -6,8 +6,8 @@ use Rattle.zio_frames.specs.Frames.{Child, Flying, Seat}
 use Rattle.zio_frames.specs.Slots.{Slot}
 use Rattle.zio_frames.proofs.GetLemmas.{get_exchanged, get_other, same_or_not}
 use Rattle.zio_turns.specs.Engine.{ChildrenHeld, HasParent, IsHeldFor, Rests}
-use Rattle.zio_turns.specs.Entries.{CountsAre, Held, OfNode, OfTree, Parent, heard_as, times_in, with_both}
-use Rattle.zio_turns.specs.Parts.{Nodes}
+use Rattle.zio_staged.specs.Entries.{CountsAre, Held, OfNode, OfTree, Parent, heard_as, times_in, with_both}
+use Rattle.zio_staged.specs.Parts.{Nodes}
 use Rattle.zio_turns.proofs.Links.{Follows, Goes, HeldIn, Keeps, Linked, MatchesIn, ShelfGoes, World, apart_still, children_go, goes_kept, goes_same, held_goes, held_there, matches_held, matches_still, parent_goes, shelf_kept, shelf_same, some_is}
 use Rattle.zio_turns.proofs.Seated.{keeps_with, place_set}
 

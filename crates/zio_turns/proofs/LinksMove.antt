@@ -5,8 +5,8 @@ use Rattle.zio_gang.specs.Attempts.{Terms}
 use Rattle.zio_frames.specs.Frames.{Child, Flying, Stack}
 use Rattle.zio_frames.proofs.GetLemmas.{same_or_not}
 use Rattle.zio_turns.specs.Engine.{ChildrenHeld, HasParent, Rests}
-use Rattle.zio_turns.specs.Entries.{CountsAre, Held, IsWith, OfNode, OfTree, Parent, times_in, with_both}
-use Rattle.zio_turns.specs.Parts.{Nodes}
+use Rattle.zio_staged.specs.Entries.{CountsAre, Held, IsWith, OfNode, OfTree, Parent, times_in, with_both}
+use Rattle.zio_staged.specs.Parts.{Nodes}
 use Rattle.zio_turns.proofs.Links.{Follows, Goes, HeldIn, Keeps, Linked, MatchesIn, ShelfGoes, World, apart_still, children_go, goes_kept, goes_same, held_there, matches_held, matches_still, parent_goes, shelf_kept, shelf_same, some_is}
 
 abbrev pub NoParent : Parent → Type 0

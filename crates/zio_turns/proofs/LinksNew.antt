@@ -11,8 +11,8 @@ use Rattle.zio_frames.specs.Frames.{Child, Flying, fresh_stack, kind_of_task, ne
 use Rattle.zio_frames.specs.Moves.{child_for, handed, next_seat}
 use Rattle.zio_frames.proofs.GetLemmas.{get_either, get_last, get_more, get_past}
 use Rattle.zio_turns.specs.Engine.{ChildrenHeld, DoesFor, HasParent, IsHeldFor, Queued, counts_as_told, parent_in}
-use Rattle.zio_turns.specs.Entries.{CountsAre, Held, OneMore, Parent, handed_on, new_held, number_in, times_in}
-use Rattle.zio_turns.specs.Parts.{Nodes}
+use Rattle.zio_staged.specs.Entries.{CountsAre, Held, OneMore, Parent, handed_on, new_held, number_in, times_in}
+use Rattle.zio_staged.specs.Parts.{Nodes}
 use Rattle.zio_turns.proofs.Links.{Follows, HeldIn, Keeps, Linked, World, children_go, in_flight_there, some_is}
 use Rattle.zio_turns.proofs.LinksMove.{NoParent}
 use Rattle.zio_turns.proofs.Queues.{more_there}

@@ -5,8 +5,8 @@ use Rattle.zio_frames.specs.Frames.{Child, Flying, Seat}
 use Rattle.zio_frames.specs.Slots.{Slot}
 use Rattle.zio_frames.proofs.GetLemmas.{same_or_not}
 use Rattle.zio_turns.specs.Engine.{ChildrenHeld}
-use Rattle.zio_turns.specs.Entries.{Held, IsWith, OfNode, OfTree, heard_as, times_in}
-use Rattle.zio_turns.specs.Parts.{Nodes}
+use Rattle.zio_staged.specs.Entries.{Held, IsWith, OfNode, OfTree, heard_as, times_in}
+use Rattle.zio_staged.specs.Parts.{Nodes}
 use Rattle.zio_turns.proofs.Links.{Follows, Goes, Linked, MatchesIn, ShelfGoes, World, apart_still, children_go, goes_kept, goes_same, matches_still, shelf_same, some_is}
 use Rattle.zio_turns.proofs.LinksHear.{ChildMoves, IsOwn, children_heard, keeps_heard, not_own}
 

@@ -5,7 +5,7 @@ use Rattle.zio_trace.proofs.LabelLemmas.{number_itself}
 use Rattle.zio_frames.specs.Frames.{Flying}
 use Rattle.zio_frames.proofs.GetLemmas.{same_or_not}
 use Rattle.zio_frames.proofs.PermLemmas.{swap_two}
-use Rattle.zio_turns.specs.Entries.{AreWith, IsWith, KeysDiffer, Live, flying_at, flying_of, live_of}
+use Rattle.zio_staged.specs.Entries.{AreWith, IsWith, KeysDiffer, Live, flying_at, flying_of, live_of}
 use Rattle.zio_turns.proofs.Queues.{number_other}
 
 pub first_at : (x : Live) (xs : List Live) → flying_at (x ∷ xs) x.key ≡ Some (flying_of x)

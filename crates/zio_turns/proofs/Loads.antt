@@ -12,9 +12,9 @@ use Rattle.zio_counts.specs.Tallies.{first_counted, is_last, notified, stalled}
 use Rattle.zio_exchange.specs.declared.outcome.Outcome.{Outcome}
 use Rattle.slab.specs.Slab.{Slab, Updates, get}
 use Rattle.zio_turns.specs.Acts.{HasEnded, HasGrown, HasHeard, HasTold, HasWaited, counting, load_of, new_ties, one_more, step_told, with_ties}
-use Rattle.zio_turns.specs.Parts.{Nodes}
+use Rattle.zio_staged.specs.Parts.{Nodes}
 use Rattle.zio_turns.specs.Slabs.{left_in, left_over, load}
-use Rattle.zio_turns.specs.Stages.{heard_max, told_cost}
+use Rattle.zio_staged.specs.Stages.{heard_max, told_cost}
 use Rattle.zio_turns.specs.declared.entry.TiedNode.{TiedNode}
 use Rattle.zio_turns.specs.declared.entry.Parent.{Parent as Above}
 use Rattle.zio_turns.specs.declared.entry.Parent.TheVariants.{Node, Tree}

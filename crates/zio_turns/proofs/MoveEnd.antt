@@ -17,8 +17,8 @@ use Rattle.zio_frames.specs.Running.{FitsTold, Later}
 use Rattle.zio_frames.specs.Slots.{Heard, Slot}
 use Rattle.zio_frames.proofs.NodeMoves.{node_arrives}
 use Rattle.zio_turns.specs.Engine.{IsKept, StillKept}
-use Rattle.zio_turns.specs.Entries.{AreWith, CountsAre, Held, Live, OfNode, OneMore, OneMoreIf, Shelf, flying_at, heard_as, live_of, owes, times_in, with_both}
-use Rattle.zio_turns.specs.Parts.{Nodes}
+use Rattle.zio_staged.specs.Entries.{AreWith, CountsAre, Held, Live, OfNode, OneMore, OneMoreIf, Shelf, flying_at, heard_as, live_of, owes, times_in, with_both}
+use Rattle.zio_staged.specs.Parts.{Nodes}
 use Rattle.zio_turns.proofs.Counts.{counted_owes, counts_ended}
 use Rattle.zio_turns.proofs.Fates.{ended_fate}
 use Rattle.zio_turns.proofs.HearLemmas.{IsChild, child_is, does_here, told_all}

@@ -14,8 +14,8 @@ use Rattle.zio_frames.specs.Slots.{Heard, Slot}
 use Rattle.zio_frames.proofs.GetLemmas.{same_or_not}
 use Rattle.zio_frames.proofs.NodeMoves.{node_settles}
 use Rattle.zio_turns.specs.Engine.{ChildrenHeld, IsKept, StillKept}
-use Rattle.zio_turns.specs.Entries.{Held, IsWith, Live, OfNode, OfTree, OneMore, Shelf, flying_at, heard_as, live_of, times_in, top_at}
-use Rattle.zio_turns.specs.Parts.{Nodes}
+use Rattle.zio_staged.specs.Entries.{Held, IsWith, Live, OfNode, OfTree, OneMore, Shelf, flying_at, heard_as, live_of, times_in, top_at}
+use Rattle.zio_staged.specs.Parts.{Nodes}
 use Rattle.zio_turns.proofs.Fates.{ended_fate}
 use Rattle.zio_turns.proofs.HearLemmas.{IsChild, child_is, does_here}
 use Rattle.zio_turns.proofs.Kept.{all_flying, kept_now, later_as, one_forward, running_as, world}

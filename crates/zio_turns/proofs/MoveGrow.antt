@@ -22,8 +22,8 @@ use Rattle.zio_frames.specs.Slots.{Slot}
 use Rattle.zio_frames.proofs.MoveItself.{hand_node}
 use Rattle.zio_frames.proofs.MoveTrees.{round_begins}
 use Rattle.zio_turns.specs.Engine.{IsKept, IsRight, StillKept}
-use Rattle.zio_turns.specs.Entries.{AreWith, Held, IsWith, Live, OfNode, OfTree, OneMore, Shelf, all_tops, flying_at, flying_of, grown, handed_on, live_of, new_flying, new_held, standing, top_at, with_stack}
-use Rattle.zio_turns.specs.Parts.{Nodes}
+use Rattle.zio_staged.specs.Entries.{AreWith, Held, IsWith, Live, OfNode, OfTree, OneMore, Shelf, all_tops, flying_at, flying_of, grown, handed_on, live_of, new_flying, new_held, standing, top_at, with_stack}
+use Rattle.zio_staged.specs.Parts.{Nodes}
 use Rattle.zio_turns.proofs.DoesLemmas.{does_all, same_children}
 use Rattle.zio_turns.proofs.Kept.{all_flying, kept_now, later_as, one_back, running_as, two_back, world}
 use Rattle.zio_turns.proofs.Links.{Linked, World, free_there}

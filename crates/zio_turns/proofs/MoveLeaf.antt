@@ -14,8 +14,8 @@ use Rattle.zio_frames.specs.Running.{Later}
 use Rattle.zio_frames.specs.Slots.{Slot}
 use Rattle.zio_frames.proofs.MoveItself.{leaf_node}
 use Rattle.zio_turns.specs.Engine.{IsKept, Queued, StillKept}
-use Rattle.zio_turns.specs.Entries.{Held, IsWith, Live, OneMore, Shelf, live_of, times_in, with_node}
-use Rattle.zio_turns.specs.Parts.{Nodes}
+use Rattle.zio_staged.specs.Entries.{Held, IsWith, Live, OneMore, Shelf, live_of, times_in, with_node}
+use Rattle.zio_staged.specs.Parts.{Nodes}
 use Rattle.zio_turns.proofs.Kept.{all_flying, kept_now, later_as, one_back}
 use Rattle.zio_turns.proofs.MoveOne.{it_is_held, leaf_now, less_one, more_one, one_linked, running_first}
 use Rattle.zio_turns.proofs.Queues.{more_other, more_there}

@@ -22,8 +22,8 @@ use Rattle.zio_frames.specs.Moves.{Did, DoesAll, choices_of}
 use Rattle.zio_frames.specs.Running.{Later}
 use Rattle.zio_frames.specs.Slots.{Slot}
 use Rattle.zio_turns.specs.Engine.{IsKept, IsRight, Rests, Queued, AtLeaf, Stalls, StillKept}
-use Rattle.zio_turns.specs.Entries.{CountsAre, Held, IsWith, Live, OneMore, Shelf, live_of, times_in, with_both, with_node}
-use Rattle.zio_turns.specs.Parts.{Nodes}
+use Rattle.zio_staged.specs.Entries.{CountsAre, Held, IsWith, Live, OneMore, Shelf, live_of, times_in, with_both, with_node}
+use Rattle.zio_staged.specs.Parts.{Nodes}
 use Rattle.zio_turns.proofs.DoesLemmas.{does_all, same_children}
 use Rattle.zio_turns.proofs.Kept.{all_flying, kept_now, later_as, one_back, one_forward, running_as, world}
 use Rattle.zio_turns.proofs.Links.{HeldIn, Keeps, Linked, World, held_there}

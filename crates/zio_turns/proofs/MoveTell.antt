@@ -17,8 +17,8 @@ use Rattle.zio_frames.specs.Running.{Later}
 use Rattle.zio_frames.specs.Slots.{IsOut, Slot}
 use Rattle.zio_frames.proofs.MoveChildren.{tell_node}
 use Rattle.zio_turns.specs.Engine.{IsKept, StillKept, counts_as_told}
-use Rattle.zio_turns.specs.Entries.{AreWith, CountsAre, Held, IsWith, KeysDiffer, Live, OfNode, OfTree, OneMoreIf, Shelf, flying_at, heard_as, live_of, owes, times_in, top_at, with_both, with_node}
-use Rattle.zio_turns.specs.Parts.{Nodes}
+use Rattle.zio_staged.specs.Entries.{AreWith, CountsAre, Held, IsWith, KeysDiffer, Live, OfNode, OfTree, OneMoreIf, Shelf, flying_at, heard_as, live_of, owes, times_in, top_at, with_both, with_node}
+use Rattle.zio_staged.specs.Parts.{Nodes}
 use Rattle.zio_turns.proofs.Counts.{counted_owes, counts_told}
 use Rattle.zio_turns.proofs.Fates.{told_fate}
 use Rattle.zio_turns.proofs.HearLemmas.{IsChild, child_is, does_here, told_not}

@@ -21,8 +21,8 @@ use Rattle.zio_frames.specs.Running.{IsRunning, all_heard}
 use Rattle.zio_frames.specs.Slots.{Slot}
 use Rattle.zio_frames.proofs.MoveTrees.{round_answered, round_ends}
 use Rattle.zio_turns.specs.Engine.{IsHeldFor, IsKept, Rests, Queued, AtLeaf, Stalls}
-use Rattle.zio_turns.specs.Entries.{Held, Live, OfNode, Shelf, flying_at, flying_of, standing, times_in}
-use Rattle.zio_turns.specs.Parts.{Nodes}
+use Rattle.zio_staged.specs.Entries.{Held, Live, OfNode, Shelf, flying_at, flying_of, standing, times_in}
+use Rattle.zio_staged.specs.Parts.{Nodes}
 use Rattle.zio_turns.proofs.Counts.{Owes, one_owes, owes_goes}
 use Rattle.zio_turns.proofs.HearLemmas.{child_is, does_here}
 use Rattle.zio_turns.proofs.Kept.{world}

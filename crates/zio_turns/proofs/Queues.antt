@@ -3,7 +3,7 @@ use Rattle.std.proofs.Common.{◌≡◌, ◌≢◌, ℕ, ◌+◌, List, [], ◌�
 use Rattle.zio_trace.specs.Keys.{bit}
 use Rattle.zio_trace.specs.Labels.{same_number}
 use Rattle.zio_trace.proofs.LabelLemmas.{number_is, number_itself}
-use Rattle.zio_turns.specs.Entries.{OneMore, OneMoreIf, times_in}
+use Rattle.zio_staged.specs.Entries.{OneMore, OneMoreIf, times_in}
 
 pub number_other : (m n : ℕ) → m ≢ n → same_number m n ≡ false
 number_other m n h = by (same_number m n) refl

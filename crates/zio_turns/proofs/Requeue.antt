@@ -19,9 +19,9 @@ use Rattle.zio_frames.specs.Running.{all_out, settling_from}
 use Rattle.slab.specs.Slab.{Slab, Updates, get}
 use Rattle.zio_turns.specs.Acts.{new_ties, with_ties}
 use Rattle.zio_turns.specs.Engine.{Matches, Rests, StillKept}
-use Rattle.zio_turns.specs.Entries.{Held, IsWith, Live, OfTree, Shelf, all_tops, flying_at, handed_on, live_of, new_flying, new_held, times_in, top_at}
+use Rattle.zio_staged.specs.Entries.{Held, IsWith, Live, OfTree, Shelf, all_tops, flying_at, handed_on, live_of, new_flying, new_held, times_in, top_at}
 use Rattle.zio_turns.specs.Ledgers.{IsOfTree, all_ended}
-use Rattle.zio_turns.specs.Parts.{Nodes}
+use Rattle.zio_staged.specs.Parts.{Nodes}
 use Rattle.zio_turns.specs.Rests.{numbers_ended}
 use Rattle.zio_turns.specs.Rounds.{Before, HandsOut, KeepsRound, SoFar, first_of, with_tree}
 use Rattle.std.specs.List.{sum_by}

@@ -22,7 +22,7 @@ use Rattle.zio_frames.specs.OfRound.{AreAsked, IsFrameOf}
 use Rattle.zio_frames.specs.Slots.{Heard, IsOut, Slot, left_behind_slots}
 use Rattle.zio_frames.proofs.GetLemmas.{get_last}
 use Rattle.zio_frames.proofs.RoundWalks.{stand_in}
-use Rattle.zio_turns.specs.Parts.{ended_by}
+use Rattle.zio_staged.specs.Parts.{ended_by}
 use Rattle.zio_turns.specs.Rests.{ChildrenAmong, HasLeftRests, HasRests, HasRestsIn, HaveRests, LeavesRests, SlotRests, SlotsRest, numbers_ended}
 use Rattle.zio_turns.proofs.ClaimsLast.{stands_early, stands_kind}
 use Rattle.zio_turns.proofs.Links.{some_is}

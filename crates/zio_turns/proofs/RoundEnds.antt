@@ -18,13 +18,13 @@ use Rattle.zio_exchange.specs.Outcomes.{held_by}
 use Rattle.zio_exchange.specs.declared.outcome.Outcome.{Outcome}
 use Rattle.slab.specs.Slab.{Slab, Updates, get}
 use Rattle.zio_turns.specs.Acts.{AwaitsEnd, NodeHeard, counting, with_ties}
-use Rattle.zio_turns.specs.Entries.{Live, OfNode, OfTree, OneMore, flying_at, live_of}
+use Rattle.zio_staged.specs.Entries.{Live, OfNode, OfTree, OneMore, flying_at, live_of}
 use Rattle.zio_turns.specs.Found.{DoesAsked, IsChildOf, IsTreeFound}
 use Rattle.zio_turns.specs.Ledgers.{IsOfTree}
-use Rattle.zio_turns.specs.Parts.{Nodes}
+use Rattle.zio_staged.specs.Parts.{Nodes}
 use Rattle.zio_turns.specs.Rounds.{Before, EndsAs, KeepsRound, SoFar, TreeHears, choices_in, with_calls, with_done}
 use Rattle.zio_turns.specs.Slabs.{AreAll, held_of, shelf_of}
-use Rattle.zio_turns.specs.Stages.{Ends, Hears}
+use Rattle.zio_staged.specs.Stages.{Ends, Hears}
 use Rattle.zio_turns.specs.declared.entry.TiedNode.{TiedNode}
 use Rattle.zio_turns.proofs.ActLemmas.{woken}
 use Rattle.zio_turns.proofs.ClaimLedger.{first_ends}

@@ -20,15 +20,15 @@ use Rattle.slab.specs.Slab.{Slab, Updates, get}
 use Rattle.zio_exchange.specs.Outcomes.{held_by}
 use Rattle.zio_exchange.specs.SpaceCalls.{SpaceCall, calls_back, calls_by}
 use Rattle.zio_turns.specs.Acts.{HasGrown, new_ties, one_more, with_ties}
-use Rattle.zio_turns.specs.Entries.{AreWith, CountsAre, Held, OfNode, OneMore, count_owing, flying_at, grown, handed_on, live_of, new_flying, new_held, owes, owing, with_both, with_stack}
+use Rattle.zio_staged.specs.Entries.{AreWith, CountsAre, Held, OfNode, OneMore, count_owing, flying_at, grown, handed_on, live_of, new_flying, new_held, owes, owing, with_both, with_stack}
 use Rattle.zio_turns.specs.Desks.{backs_in, found_in}
 use Rattle.zio_turns.specs.Engine.{StillKept}
 use Rattle.zio_turns.specs.Ledgers.{IsLedger, all_ended, gave_over}
-use Rattle.zio_turns.specs.Parts.{Nodes}
+use Rattle.zio_staged.specs.Parts.{Nodes}
 use Rattle.zio_turns.specs.Rests.{numbers_ended}
 use Rattle.zio_turns.specs.Rounds.{AreRight, Before, KeepsRound, SoFar, choices_in, with_calls}
 use Rattle.zio_turns.specs.Slabs.{held_if, held_of, shelf_of}
-use Rattle.zio_turns.specs.Stages.{Grows}
+use Rattle.zio_staged.specs.Stages.{Grows}
 use Rattle.zio_turns.specs.declared.entry.TiedNode.{TiedNode}
 use Rattle.zio_turns.specs.declared.entry.Parent.TheVariants.{Node}
 use Rattle.zio_turns.specs.Claims.{IsNoSettle}

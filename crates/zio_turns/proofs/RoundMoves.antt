@@ -25,14 +25,14 @@ use Rattle.zio_exchange.specs.Outcomes.{held_by}
 use Rattle.zio_exchange.specs.SpaceCalls.{SpaceCall, calls_by}
 use Rattle.zio_turns.specs.Acts.{counting, with_ties}
 use Rattle.zio_turns.specs.Engine.{IsKept}
-use Rattle.zio_turns.specs.Entries.{CountsAre, OneMore, count_owing, flying_at, live_of}
+use Rattle.zio_staged.specs.Entries.{CountsAre, OneMore, count_owing, flying_at, live_of}
 use Rattle.zio_turns.specs.Desks.{backs_in, found_in}
 use Rattle.zio_turns.specs.Ledgers.{gave_over}
-use Rattle.zio_turns.specs.Parts.{Nodes, ended_in}
+use Rattle.zio_staged.specs.Parts.{Nodes, ended_in}
 use Rattle.zio_turns.specs.Rounds.{AreRight, Before, KeepsRound, SoFar, choices_in, with_calls, with_images, with_op}
 use Rattle.zio_turns.specs.Sizes.{HasAskedSize}
 use Rattle.zio_turns.specs.Slabs.{held_of, shelf_of}
-use Rattle.zio_turns.specs.Stages.{GoesOn, Stays, AreItsOwn}
+use Rattle.zio_staged.specs.Stages.{GoesOn, Stays, AreItsOwn}
 use Rattle.zio_turns.specs.declared.entry.TiedNode.{TiedNode}
 use Rattle.zio_turns.proofs.Callings.{WereRight, none_made, were_right}
 use Rattle.zio_turns.proofs.ClaimLedger.{first_change}

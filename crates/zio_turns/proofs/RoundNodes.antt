@@ -13,9 +13,9 @@ use Rattle.zio_frames.specs.Seats.{IsSeated}
 use Rattle.zio_frames.specs.Slots.{Slot}
 use Rattle.slab.specs.Slab.{Slab, get}
 use Rattle.zio_turns.specs.Engine.{IsKept, StillKept}
-use Rattle.zio_turns.specs.Entries.{CountsAre, IsWith, KeysDiffer, Live, Shelf, flying_at, flying_of, live_of}
+use Rattle.zio_staged.specs.Entries.{CountsAre, IsWith, KeysDiffer, Live, Shelf, flying_at, flying_of, live_of}
 use Rattle.zio_turns.specs.Ledgers.{IsLedger}
-use Rattle.zio_turns.specs.Parts.{Nodes}
+use Rattle.zio_staged.specs.Parts.{Nodes}
 use Rattle.zio_turns.specs.Rounds.{Before, DoTheirs, KeepsRound, SoFar}
 use Rattle.zio_turns.specs.Slabs.{AreNumbered, held_if, held_of, shelf_of}
 use Rattle.zio_turns.specs.declared.entry.TiedNode.{TiedNode}

@@ -18,9 +18,9 @@ use Rattle.zio_frames.specs.Running.{all_heard}
 use Rattle.slab.specs.Slab.{Slab, get}
 use Rattle.zio_exchange.specs.Outcomes.{freed_if, freed_of}
 use Rattle.zio_turns.specs.Engine.{IsKept}
-use Rattle.zio_turns.specs.Entries.{Held, standing}
+use Rattle.zio_staged.specs.Entries.{Held, standing}
 use Rattle.zio_turns.specs.Ledgers.{IsLedger, all_ended, ended_of_top, ended_of_tree, found_so_far, freed_in, gave_over, made_in, AreOnce, Ending, IsEnding, freed_for}
-use Rattle.zio_turns.specs.Parts.{Nodes}
+use Rattle.zio_staged.specs.Parts.{Nodes}
 use Rattle.zio_turns.specs.Rounds.{Before, SoFar}
 use Rattle.zio_turns.specs.Slabs.{held_if, left_in, shelf_of}
 use Rattle.zio_turns.specs.declared.entry.TiedNode.{TiedNode}

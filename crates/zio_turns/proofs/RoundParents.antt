@@ -13,10 +13,10 @@ use Rattle.zio_frames.specs.Running.{Later}
 use Rattle.zio_frames.specs.Seats.{IsSeated}
 use Rattle.slab.specs.Slab.{Slab, get}
 use Rattle.zio_turns.specs.Engine.{HasParent, IsKept, StillKept}
-use Rattle.zio_turns.specs.Entries.{CountsAre, Held, Live, OfNode, Parent, flying_at, flying_of, live_of, standing, top_at}
+use Rattle.zio_staged.specs.Entries.{CountsAre, Held, Live, OfNode, Parent, flying_at, flying_of, live_of, standing, top_at}
 use Rattle.zio_turns.specs.Found.{IsChildOf}
 use Rattle.zio_turns.specs.Ledgers.{IsLedger}
-use Rattle.zio_turns.specs.Parts.{Nodes}
+use Rattle.zio_staged.specs.Parts.{Nodes}
 use Rattle.zio_turns.specs.Rounds.{Before, DoTheirs, SoFar}
 use Rattle.zio_turns.specs.Slabs.{AreNumbered, held_if, held_of, shelf_of}
 use Rattle.zio_turns.specs.declared.entry.TiedNode.{TiedNode}

@@ -13,13 +13,13 @@ use Rattle.slab.specs.Slab.{Slab, Updates, get}
 use Rattle.zio_exchange.specs.SpaceCalls.{SpaceCall}
 use Rattle.zio_turns.specs.Acts.{AwaitsReady, NodeTold, counting, with_ties}
 use Rattle.zio_turns.specs.Engine.{counts_as_told}
-use Rattle.zio_turns.specs.Entries.{IsWith, Live, OfNode, OfTree, flying_at, live_of}
+use Rattle.zio_staged.specs.Entries.{IsWith, Live, OfNode, OfTree, flying_at, live_of}
 use Rattle.zio_turns.specs.Found.{DoesAsked, IsChildOf, IsTreeFound}
 use Rattle.zio_turns.specs.Ledgers.{IsLedger}
-use Rattle.zio_turns.specs.Parts.{Nodes}
+use Rattle.zio_staged.specs.Parts.{Nodes}
 use Rattle.zio_turns.specs.Rounds.{Before, KeepsRound, SoFar, TreeHearsEarly, choices_in, with_calls}
 use Rattle.zio_turns.specs.Slabs.{held_of, shelf_of}
-use Rattle.zio_turns.specs.Stages.{Tells}
+use Rattle.zio_staged.specs.Stages.{Tells}
 use Rattle.zio_turns.specs.declared.entry.TiedNode.{TiedNode}
 use Rattle.zio_frames.proofs.GetLemmas.{same_or_not}
 use Rattle.zio_turns.proofs.ActLemmas.{woken_behind}

@@ -5,7 +5,7 @@ use Rattle.std.proofs.lemmas.List.Sums.{sum_by-cons}
 use Rattle.slab.specs.Slab.{Slab, Updates, get}
 use Rattle.zio_frames.specs.Frames.{Flying}
 use Rattle.zio_frames.proofs.GetLemmas.{same_or_not}
-use Rattle.zio_turns.specs.Entries.{AreWith, IsWith}
+use Rattle.zio_staged.specs.Entries.{AreWith, IsWith}
 use Rattle.zio_turns.specs.Slabs.{AreAll, AreNumbered, held_if, held_of, left_in, left_over, shelf_of}
 use Rattle.zio_turns.specs.declared.entry.TiedNode.{TiedNode}
 use Rattle.zio_turns.proofs.Links.{some_is}

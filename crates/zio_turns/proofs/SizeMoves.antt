@@ -22,7 +22,7 @@ use Rattle.zio_frames.specs.Slots.{Heard, IsOut, Slot}
 use Rattle.zio_frames.proofs.GetLemmas.{get_last}
 use Rattle.zio_turns.specs.AtLeaves.{WaitsFor}
 use Rattle.zio_turns.specs.Sizes.{HasAskedSize, HasSizes, InnerSized, IsSizedAs, SlotSized, SlotsSized}
-use Rattle.zio_turns.specs.Stages.{ShowsAnswer}
+use Rattle.zio_staged.specs.Stages.{ShowsAnswer}
 use Rattle.zio_turns.proofs.Links.{some_is}
 use Rattle.zio_turns.proofs.SizeLemmas.{part_sized}
 

@@ -17,11 +17,11 @@ use Rattle.zio_exchange.specs.SpaceCalls.{SpaceCall}
 use Rattle.zio_exchange.specs.declared.outcome.Outcome.{Outcome}
 use Rattle.slab.specs.Slab.{Slab, Updates, get}
 use Rattle.zio_turns.specs.Acts.{CanEnd, CanTell, HasEnded, HasGrown, HasTold, HasWaited, step_told, with_ties}
-use Rattle.zio_turns.specs.Entries.{count_owing}
-use Rattle.zio_turns.specs.Parts.{Nodes}
+use Rattle.zio_staged.specs.Entries.{count_owing}
+use Rattle.zio_staged.specs.Parts.{Nodes}
 use Rattle.zio_turns.specs.Rounds.{IsTurn, KeepsRound, SoFar, StepsOn, TreeHears, TreeHearsEarly, with_calls, with_op}
 use Rattle.zio_turns.specs.Slabs.{held_of, parent_of, shelf_of}
-use Rattle.zio_turns.specs.Stages.{Ends, GoesOn, GoesToLeaf, Grows, IsNow, Tells, Waits}
+use Rattle.zio_staged.specs.Stages.{Ends, GoesOn, GoesToLeaf, Grows, IsNow, Tells, Waits}
 use Rattle.zio_turns.specs.declared.entry.TiedNode.{TiedNode}
 use Rattle.zio_turns.specs.declared.entry.Parent.{Parent as Above}
 use Rattle.zio_turns.specs.declared.entry.Parent.TheVariants.{Node, Tree}

@@ -32,8 +32,8 @@ use Rattle.zio_exchange.specs.LeafOps.{IsOpAt}
 use Rattle.zio_exchange.specs.declared.outcome.FinishedRequest.{FinishedRequest}
 use Rattle.zio_turns.specs.AtLeaves.{WaitsFor, key_of, keyed, keys_at, keys_in, waiting_at}
 use Rattle.zio_turns.specs.Engine.{Matches, StillKept}
-use Rattle.zio_turns.specs.Entries.{Held, Live, Shelf, flying_at, live_of, times_in, top_at}
-use Rattle.zio_turns.specs.Parts.{Nodes}
+use Rattle.zio_staged.specs.Entries.{Held, Live, Shelf, flying_at, live_of, times_in, top_at}
+use Rattle.zio_staged.specs.Parts.{Nodes}
 use Rattle.zio_turns.specs.Rounds.{Before, SoFar, with_done, with_tree}
 use Rattle.zio_turns.specs.Slabs.{shelf_of}
 use Rattle.zio_turns.specs.Stops.{IsStopped, IsTaken, StopsWith, TellStopped, TreesStopWith}

@@ -11,7 +11,7 @@ use Rattle.zio_trace.specs.Keys.{bit}
 use Rattle.zio_trace.specs.Labels.{same_number}
 use Rattle.zio_trace.proofs.LabelLemmas.{number_is, number_itself}
 use Rattle.zio_turns.specs.AtLeaves.{key_of, keys_in}
-use Rattle.zio_turns.specs.Entries.{times_in}
+use Rattle.zio_staged.specs.Entries.{times_in}
 use Rattle.zio_turns.proofs.KeyTimes.{no_ticket, not_queued, test_is}
 
 -- ---- those without a ticket

@@ -7,7 +7,7 @@ use Rattle.zio_frames.specs.Running.{all_heard, all_out, settling_from}
 use Rattle.zio_frames.specs.Slots.{Heard, IsOut, Slot}
 use Rattle.zio_frames.proofs.PermLemmas.{swap_two}
 use Rattle.zio_turns.specs.Engine.{TreesStand}
-use Rattle.zio_turns.specs.Entries.{IsWith, all_tops, standing, top_at}
+use Rattle.zio_staged.specs.Entries.{IsWith, all_tops, standing, top_at}
 
 -- ---- by number
 

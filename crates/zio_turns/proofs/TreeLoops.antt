@@ -25,9 +25,9 @@ use Rattle.slab.specs.Slab.{Slab}
 use Rattle.zio_turns.specs.Attempting.{Course, IsAttempting, attempt_of, rest_of, settled_with}
 use Rattle.zio_turns.specs.AtLeaves.{keys_at}
 use Rattle.zio_turns.specs.Engine.{IsKept}
-use Rattle.zio_turns.specs.Entries.{Live, flying_at, handed_on, standing, top_at}
+use Rattle.zio_staged.specs.Entries.{Live, flying_at, handed_on, standing, top_at}
 use Rattle.zio_turns.specs.Ledgers.{Ending, IsLedger}
-use Rattle.zio_turns.specs.Parts.{Nodes, ended_by}
+use Rattle.zio_staged.specs.Parts.{Nodes, ended_by}
 use Rattle.zio_turns.specs.Rounds.{Before, EndsAs, SoFar, finished_in, with_done, with_tree}
 use Rattle.zio_turns.specs.Slabs.{AreAll, shelf_of}
 use Rattle.zio_turns.specs.UnderTrees.{AfterHearing, AreInStates, AreSettledWith, HasHeardOf, HasRun, IsInState, IsLeftOf, IsOfAttempt, IsOver, IsSettledWith, RunsSome, RunsToEnd, RunsTrees, StateIn, TreeGoesOn, attempts_left, with_value}

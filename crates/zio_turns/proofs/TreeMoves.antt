@@ -17,8 +17,8 @@ use Rattle.zio_exchange.specs.declared.outcome.FinishedRequest.{FinishedRequest}
 use Rattle.zio_exchange.specs.declared.outcome.Outcome.TheVariants.{Again, Finished as HasFinished}
 use Rattle.slab.specs.Slab.{Slab}
 use Rattle.zio_turns.specs.Attempting.{Course, IsSettle, again_with, attempt_of, settled_with}
-use Rattle.zio_turns.specs.Entries.{top_at}
-use Rattle.zio_turns.specs.Parts.{Nodes, ended_in}
+use Rattle.zio_staged.specs.Entries.{top_at}
+use Rattle.zio_staged.specs.Parts.{Nodes, ended_in}
 use Rattle.zio_turns.specs.Rounds.{Before, HandsOut, KeepsRound, SoFar}
 use Rattle.zio_turns.specs.Slabs.{shelf_of}
 use Rattle.zio_turns.specs.UnderTrees.{BeginsOn, TreeGoesOn, with_value}

@@ -1,5 +1,5 @@
 -- A turn and its stages: what stands before each of them.
-use Rattle.std.proofs.Common.{◌≡◌, ℕ, ◌+◌, ◌<◌, ◌≤◌, List, [], ◌∷◌, length, map, Some, None, refl, sym, ap, ◌∙◌, subst, arith}
+use Rattle.std.proofs.Common.{◌≡◌, ℕ, ◌+◌, ◌<◌, ◌≤◌, List, [], ◌∷◌, ◌++◌, length, length-append, map, Some, None, refl, sym, ap, ◌∙◌, subst, arith}
 use Rattle.std.specs.Prelude.{slice_index_or}
 use Rattle.zio_types.specs.declared.place.Top.{Top}
 use Rattle.zio_gang.specs.Attempts.{Terms}
@@ -14,11 +14,11 @@ use Rattle.slab.specs.Slab.{Slab}
 use Rattle.zio_turns.specs.Acts.{load_of}
 use Rattle.zio_turns.specs.AtLeaves.{IsPut, keys_at, put_as}
 use Rattle.zio_turns.specs.Desks.{AreMade, GivesLast}
-use Rattle.zio_turns.specs.Entries.{times_in}
+use Rattle.zio_staged.specs.Entries.{times_in}
 use Rattle.zio_turns.specs.Grounds.{AreReady}
-use Rattle.zio_turns.specs.Parts.{Nodes}
+use Rattle.zio_staged.specs.Parts.{Nodes}
 use Rattle.zio_turns.specs.Rounds.{AsksRightly, Before, IsTurn, SoFar, StepsOn}
-use Rattle.zio_turns.specs.Slabs.{AreAll, load}
+use Rattle.zio_turns.specs.Slabs.{AreAll, left_over, load}
 use Rattle.zio_turns.specs.UnderTurns.{AreSameGrounds, GoesOnSome, HasTurned, IsGoingOn, TurnsOn, work_left}
 use Rattle.zio_turns.specs.declared.desk.Desk.{Desk}
 use Rattle.zio_turns.specs.declared.entry.TiedNode.{TiedNode}
@@ -26,6 +26,7 @@ use Rattle.zio_turns.specs.declared.grounds.Grounds.{Grounds}
 use Rattle.zio_turns.specs.declared.step.Step.{Step}
 use Rattle.zio_turns.specs.declared.step.Step.TheVariants.{Ended, Goes, Leaf as ToLeaf, Rests, Root, Told}
 use Rattle.zio_turns.specs.declared.turn.Turned.TheVariants.{Nothing, Ended as HasEnded, Root as ToRoot}
+use Rattle.zio_turns.proofs.Helps.{last_queued, stays_requeued}
 use Rattle.zio_turns.proofs.KeyLengths.{length_more}
 use Rattle.zio_turns.proofs.TurnMoves.{TakesIt, gone_nowhere, leaf_takes, none_waits, turn_ends, turn_finishes, turn_goes, turn_leaves, turn_rests, turn_roots, turn_told}
 
@@ -72,6 +73,27 @@ module _ {N D : Type 0} (nodes : Nodes N) (over : List Top → N → Type 0) (by
       over_all = h.over_all;
     }
 
+    pub turning_same : (slab_now : Slab (TiedNode N)) (line_now : List ℕ) → slab_now ≡ slab → line_now ≡ line
+        → IsTurning slab_now line_now g
+    turning_same slab_now line_now same queue =
+        subst (λ (x : Slab (TiedNode N)). IsTurning x line_now g) (sym same)
+        (subst (λ (q : List ℕ). IsTurning slab q g) (sym queue) h)
+
+    -- it is queued again
+    pub turning_queues : (slab_now : Slab (TiedNode N)) (line_now : List ℕ) → slab_now ≡ slab → line_now ≡ line ++ key ∷ []
+        → TurnsOn {N = N} {D = D} {S = Unit {0}} nodes bytes image first first_line lent slab_now line_now g key Nothing
+    turning_queues slab_now line_now same queued = λ t sizes f before s sound k.
+        let gone = h.gone t sizes f before s sound k in
+        record {
+          now = gone.now;
+          gone = gone.gone;
+          going = record {
+            keeps = stays_requeued nodes slab slab_now (key ∷ line) line_now same (last_queued line key line_now queued) t sizes f before
+                gone.now (keys_at g.queues.leaves.items) sound gone.going.keeps;
+            lent = gone.going.lent;
+          };
+        }
+
     module _ (slab_now : Slab (TiedNode N)) (line_now : List ℕ) (d : Desk) (calls : List SpaceCall)
         (served : AreMade calls g.desk.space d.space) (asks : AsksRightly {N = N} nodes g.desk.tops calls slab line key)
         (last : GivesLast calls) (tops_same : d.tops ≡ g.desk.tops) where
@@ -101,6 +123,19 @@ module _ {N D : Type 0} (nodes : Nodes N) (over : List Top → N → Type 0) (by
         leaves_same = h.leaves_same;
         less = omega (arith, less, h.less);
       }
+
+      -- with the key queued again there is no more left than before the turn
+      pub turning_queued_less : (slab_then : Slab (TiedNode N)) (line_then : List ℕ)
+          → load {N = N} nodes.left slab_now line_now + 1 < load {N = N} nodes.left slab line + 1 → slab_then ≡ slab_now
+          → line_then ≡ line_now ++ key ∷ []
+          → work_left {N = N} {D = D} nodes.left slab_then line_then With < work_left {N = N} {D = D} nodes.left first first_line lent + 1
+      turning_queued_less slab_then line_then less same queued =
+          let keys : length (keys_at g.queues.leaves.items) ≡ length (keys_at lent.queues.leaves.items) =
+          ap (λ (ls : List _). length (keys_at ls)) h.leaves_same in
+          let e : left_over {N = N} nodes.left slab_then ≡ left_over {N = N} nodes.left slab_now = ap (left_over {N = N} nodes.left) same in
+          let one : length line_then ≡ length (line_now ++ key ∷ []) = ap (λ (q : List ℕ). length q) queued in
+          let two = length-append line_now (key ∷ []) in
+          omega (arith, less, h.less, keys, e, one, two)
 
       pub turning_told : (tree : ℕ) → On {S = Unit {0}} (Told tree) → AreAll {N = N} (over g.desk.tops) slab_now
           → load {N = N} nodes.left slab_now line_now + 1 < load {N = N} nodes.left slab line + 1 → IsTurning slab_now line_now With

@@ -33,10 +33,10 @@ use Rattle.slab.specs.Slab.{Slab, get}
 use Rattle.zio_turns.specs.Acts.{IsHandedOn}
 use Rattle.zio_turns.specs.AtLeaves.{AllWait, IsPut, WaitsFor, key_of, keys_at, keys_in, put_as, waiting_at}
 use Rattle.zio_turns.specs.Desks.{AreMade, IsDeskAt, choices_in, GivesLast}
-use Rattle.zio_turns.specs.Entries.{times_in}
+use Rattle.zio_staged.specs.Entries.{times_in}
 use Rattle.zio_turns.specs.Grounds.{AreReady}
 use Rattle.zio_turns.specs.Ledgers.{AreToldAs, Ending, found_so_far}
-use Rattle.zio_turns.specs.Parts.{Nodes}
+use Rattle.zio_staged.specs.Parts.{Nodes}
 use Rattle.zio_turns.specs.Rounds.{AfterStep, AsksRightly, Before, EndsAs, SoFar, StepsOn, finished_in, op_set, with_calls, with_done, with_op, with_tree}
 use Rattle.zio_turns.specs.Slabs.{held_of, shelf_of}
 use Rattle.zio_turns.specs.UnderTurns.{AreLent, AreTold, EndsFinished, FitDisks, HasEndedFor, HasGoneOn, HasTurned, IsTelling, Telling, TellNow, with_telling}

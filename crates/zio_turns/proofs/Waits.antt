@@ -14,7 +14,7 @@ use Rattle.zio_trace.specs.Leaves.{LeafOp}
 use Rattle.zio_trace.specs.Tasks.{Leaf}
 use Rattle.zio_frames.specs.Frames.{Child, Stack, fresh_stack}
 use Rattle.zio_turns.specs.Engine.{Rests, Queued, AtLeaf, Stalls}
-use Rattle.zio_turns.specs.Entries.{Held, with_both}
+use Rattle.zio_staged.specs.Entries.{Held, with_both}
 use Rattle.zio_turns.proofs.Counts.{counted_notified, less_if, same_count, stall_notified}
 
 kind_is : (a b : ChildKind) → same_kind a b ≡ true → a ≡ b

@@ -20,7 +20,7 @@ use Rattle.zio_frames.specs.Slots.{Heard, IsOut, Slot, left_behind_slots, told_i
 use Rattle.zio_frames.proofs.KnownLemmas.{AlwaysEnds, ends_then}
 use Rattle.zio_exchange.specs.Outcomes.{places_by}
 use Rattle.zio_exchange.specs.WithinParts.{IsDoneWithin}
-use Rattle.zio_turns.specs.Parts.{ended_by}
+use Rattle.zio_staged.specs.Parts.{ended_by}
 use Rattle.zio_turns.proofs.Links.{some_is}
 
 -- ---- which they are

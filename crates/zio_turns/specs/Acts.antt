@@ -18,8 +18,8 @@ use Rattle.zio_exchange.specs.declared.outcome.FinishedRequest.{FinishedRequest}
 use Rattle.zio_exchange.specs.declared.outcome.Outcome.{Outcome}
 use Rattle.zio_exchange.specs.declared.outcome.Outcome.TheVariants.{Finished as HasFinished}
 use Rattle.slab.specs.Slab.{Slab, Updates, get}
-use Rattle.zio_turns.specs.Parts.{Nodes}
-use Rattle.zio_turns.specs.Stages.{Hears, HearsEarly, HearsSome, HearsSomeEarly, OutcomeIn, heard_max}
+use Rattle.zio_staged.specs.Parts.{Nodes}
+use Rattle.zio_staged.specs.Stages.{Hears, HearsEarly, HearsSome, HearsSomeEarly, OutcomeIn, heard_max}
 use Rattle.zio_turns.specs.declared.entry.TiedNode.{TiedNode}
 use Rattle.zio_turns.specs.declared.entry.Parent.{Parent as Above}
 use Rattle.zio_turns.specs.declared.entry.Parent.TheVariants.{Tree, Node}

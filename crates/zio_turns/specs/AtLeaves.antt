@@ -11,8 +11,8 @@ use Rattle.zio_groups.specs.Issued.{AreWhole}
 use Rattle.zio_groups.specs.LeafQueues.{Waits, queue_of, waiting_with}
 use Rattle.zio_trace.specs.Leaves.{Fetch, LeafOp, Store, on_leaf}
 use Rattle.zio_exchange.specs.LeafOps.{IsOpAt}
-use Rattle.zio_turns.specs.Entries.{OneMore, times_in}
-use Rattle.zio_turns.specs.Stages.{ShowsAnswer}
+use Rattle.zio_staged.specs.Entries.{OneMore, times_in}
+use Rattle.zio_staged.specs.Stages.{ShowsAnswer}
 
 -- ---- keys
 

@@ -9,7 +9,7 @@ use Rattle.zio_trace.specs.Programs.{Ends, ◌>>=◌}
 use Rattle.zio_trace.specs.Tasks.{Attempt, One, Settle, Settled, SettledBy, Task, Value}
 use Rattle.zio_frames.specs.Frames.{Child, OfOuter, Stack, left_of}
 use Rattle.zio_frames.specs.Slots.{AllHeard, IsOut, Slot, left_behind_slots}
-use Rattle.zio_turns.specs.Parts.{ended_in, ended_in_slot}
+use Rattle.zio_staged.specs.Parts.{ended_in, ended_in_slot}
 
 -- with these requests ended before
 abbrev pub settled_behind : List Ended → Settled → Value

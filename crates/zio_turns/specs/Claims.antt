@@ -7,7 +7,7 @@ use Rattle.zio_trace.specs.SoundRounds.{HasClaim}
 use Rattle.zio_trace.specs.Tasks.{Attempt, Settle, TakePlaces, Task, attempted}
 use Rattle.zio_frames.specs.Frames.{Flying, Stack}
 use Rattle.zio_frames.specs.Slots.{Heard, IsOut, Slot}
-use Rattle.zio_turns.specs.Entries.{Live}
+use Rattle.zio_staged.specs.Entries.{Live}
 
 abbrev pub takes : Task → Bool
 takes (TakePlaces tree) = true

@@ -17,8 +17,8 @@ use Rattle.zio_frames.specs.Frames.{Child, Flying, Stack, fresh_stack, place_of}
 use Rattle.zio_frames.specs.Moves.{Did, Took}
 use Rattle.zio_frames.specs.Running.{IsRunning}
 use Rattle.zio_frames.specs.Slots.{Heard, IsOut, Slot}
-use Rattle.zio_turns.specs.Entries.{CountsAre, Held, KeysDiffer, Live, OfNode, OfTree, Parent, Shelf, flying_at, flying_of, number_in, standing, times_in, top_at}
-use Rattle.zio_turns.specs.Parts.{Nodes}
+use Rattle.zio_staged.specs.Entries.{CountsAre, Held, KeysDiffer, Live, OfNode, OfTree, Parent, Shelf, flying_at, flying_of, number_in, standing, times_in, top_at}
+use Rattle.zio_staged.specs.Parts.{Nodes}
 
 -- ---- a node and its parent
 

@@ -8,8 +8,8 @@ use Rattle.zio_frames.specs.Frames.{Child, Flying, kind_of_task, place_of}
 use Rattle.zio_frames.specs.Seats.{asked_at}
 use Rattle.zio_frames.specs.Slots.{Slot}
 use Rattle.zio_turns.specs.Engine.{StillKept, counts_as_told}
-use Rattle.zio_turns.specs.Entries.{CountsAre, Held, Live, Shelf, live_of, top_at}
-use Rattle.zio_turns.specs.Parts.{Nodes}
+use Rattle.zio_staged.specs.Entries.{CountsAre, Held, Live, Shelf, live_of, top_at}
+use Rattle.zio_staged.specs.Parts.{Nodes}
 
 -- a node is so far, and its counts are those of its children
 pub record IsSoFar {N : Type 0} (nodes : Nodes N) (t : Terms) (h : Held N) (x : Flying) : Type 0 where

@@ -20,12 +20,12 @@ use Rattle.slab.specs.Slab.{Slab}
 use Rattle.zio_turns.specs.Attempting.{IsSettle}
 use Rattle.zio_turns.specs.Claims.{ClaimsOnce}
 use Rattle.zio_turns.specs.Desks.{taken_by_all}
-use Rattle.zio_turns.specs.Entries.{Live}
-use Rattle.zio_turns.specs.Parts.{Nodes, ended_in}
+use Rattle.zio_staged.specs.Entries.{Live}
+use Rattle.zio_staged.specs.Parts.{Nodes, ended_in}
 use Rattle.zio_turns.specs.Rests.{ChildrenAmong, HasRests, numbers_ended}
 use Rattle.zio_turns.specs.Sizes.{FitsBodies, HasSizes}
 use Rattle.zio_turns.specs.Slabs.{left_over}
-use Rattle.zio_turns.specs.Stages.{AreHandedOut}
+use Rattle.zio_staged.specs.Stages.{AreHandedOut}
 use Rattle.zio_turns.specs.declared.entry.TiedNode.{TiedNode}
 
 -- ---- the books

@@ -33,14 +33,14 @@ use Rattle.slab.specs.Slab.{Slab}
 pub use Rattle.zio_turns.specs.Desks.{AreRight, choices_in}
 use Rattle.zio_turns.specs.Desks.{MayAsk, backs_in, claims_in}
 use Rattle.zio_turns.specs.Engine.{StillKept}
-use Rattle.zio_turns.specs.Entries.{Live, OneMore, all_tops, flying_at, handed_on, times_in, top_at}
+use Rattle.zio_staged.specs.Entries.{Live, OneMore, all_tops, flying_at, handed_on, times_in, top_at}
 use Rattle.zio_turns.specs.Acts.{IsHandedOn}
 use Rattle.zio_turns.specs.Ledgers.{AreToldAs, Books, Ending, IsLedger, no_books}
-use Rattle.zio_turns.specs.Parts.{Nodes, ended_by, ended_in}
+use Rattle.zio_staged.specs.Parts.{Nodes, ended_by, ended_in}
 use Rattle.zio_turns.specs.ShortTops.{EndsWithTops}
 use Rattle.zio_turns.specs.Sizes.{HasAskedSize}
 use Rattle.zio_turns.specs.Slabs.{AreAll, AreNumbered, shelf_of}
-use Rattle.zio_turns.specs.Stages.{ShowsAnswer}
+use Rattle.zio_staged.specs.Stages.{ShowsAnswer}
 use Rattle.zio_turns.specs.declared.entry.TiedNode.{TiedNode}
 use Rattle.zio_turns.specs.declared.step.Step.{Step}
 use Rattle.zio_turns.specs.declared.step.Step.TheVariants.{Ended as HasEnded, Goes, Leaf as ToLeaf, Rests, Root, Told}

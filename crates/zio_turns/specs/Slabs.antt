@@ -3,7 +3,7 @@ use Rattle.std.specs.Prelude.{◌≡◌, ℕ, ◌+◌, ◌*◌, List, length, Op
 use Rattle.std.specs.List.{sum_by}
 use Rattle.slab.specs.Slab.{Slab, get}
 use Rattle.zio_frames.specs.Frames.{Flying}
-use Rattle.zio_turns.specs.Entries.{Held, OfNode, OfTree, Parent, Shelf}
+use Rattle.zio_staged.specs.Entries.{Held, OfNode, OfTree, Parent, Shelf}
 use Rattle.zio_turns.specs.declared.entry.TiedNode.{TiedNode}
 use Rattle.zio_turns.specs.declared.entry.Parent.{Parent as Above}
 use Rattle.zio_turns.specs.declared.entry.Parent.TheVariants.{Tree, Node}

@@ -15,7 +15,7 @@ use Rattle.zio_trace.specs.Leaves.{HaveSizes}
 use Rattle.zio_trace.specs.SoundRounds.{IsSoundRound}
 use Rattle.zio_trace.specs.Stopped.{places_taken, spots_touched}
 use Rattle.slab.specs.Slab.{Slab}
-use Rattle.zio_turns.specs.Parts.{Nodes}
+use Rattle.zio_staged.specs.Parts.{Nodes}
 use Rattle.zio_turns.specs.Rounds.{SoFar}
 use Rattle.zio_turns.specs.UnderTrees.{RunsTrees}
 use Rattle.zio_turns.specs.UnderTurns.{IsGoingOn}

@@ -24,9 +24,9 @@ use Rattle.zio_exchange.specs.declared.outcome.Outcome.TheVariants.{Again, Finis
 use Rattle.slab.specs.Slab.{Slab}
 use Rattle.zio_turns.specs.Attempting.{Course, IsAttempting, IsBetween, attempt_of, course_of, rest_of, settled_with}
 use Rattle.zio_turns.specs.Engine.{IsKept}
-use Rattle.zio_turns.specs.Entries.{handed_on, standing, top_at}
+use Rattle.zio_staged.specs.Entries.{handed_on, standing, top_at}
 use Rattle.zio_turns.specs.Ledgers.{AreToldAs, Ending, IsLedger, no_books}
-use Rattle.zio_turns.specs.Parts.{Nodes, ended_in}
+use Rattle.zio_staged.specs.Parts.{Nodes, ended_in}
 use Rattle.zio_turns.specs.Rounds.{Before, KeepsRound, SoFar, no_op, with_tree}
 use Rattle.zio_turns.specs.Slabs.{shelf_of}
 use Rattle.zio_turns.specs.UnderTurns.{EndsFinished, IsGoingOn}

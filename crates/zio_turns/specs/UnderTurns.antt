@@ -25,15 +25,15 @@ use Rattle.zio_exchange.specs.declared.outcome.Outcome.TheVariants.{Finished as 
 use Rattle.slab.specs.Slab.{Slab}
 use Rattle.zio_turns.specs.AtLeaves.{AllWait, WaitsFor, key_of, keys_at}
 use Rattle.zio_turns.specs.Desks.{IsDeskAt}
-use Rattle.zio_turns.specs.Entries.{top_at}
+use Rattle.zio_staged.specs.Entries.{top_at}
 use Rattle.zio_turns.specs.Grounds.{AreReady}
 use Rattle.zio_turns.specs.Ledgers.{AreToldAs, Ending}
-use Rattle.zio_turns.specs.Parts.{Nodes}
+use Rattle.zio_staged.specs.Parts.{Nodes}
 use Rattle.zio_turns.specs.Rounds.{Before, EndsAs, KeepsRound, KeepsSome, SoFar, finished_in, with_done, with_images, with_tree}
 use Rattle.zio_turns.specs.ShortTops.{AreShort}
 use Rattle.zio_turns.specs.Sizes.{HasAskedSize}
 use Rattle.zio_turns.specs.Slabs.{load}
-use Rattle.zio_turns.specs.Stages.{OutcomeIn, ShowsAnswer}
+use Rattle.zio_staged.specs.Stages.{OutcomeIn, ShowsAnswer}
 use Rattle.zio_turns.specs.declared.entry.TiedNode.{TiedNode}
 use Rattle.zio_turns.specs.declared.grounds.Grounds.{Grounds}
 use Rattle.zio_turns.specs.declared.hearing.Hearing.{Hearing}

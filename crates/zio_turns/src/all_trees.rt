@@ -10,24 +10,26 @@ ghost use Rattle.zio_turns.specs.UnderTrees.{RunsSome, RunsToEnd, StateIn};
 
 use crate::grounds::Grounds;
 use crate::hearing::run_to_tree;
+use crate::helper::Helper;
 use crate::picks::Picks;
-use crate::staged::Staged;
 use crate::trees::{TreeState, hear_tree};
 use crate::turns::Turns;
 use zio_disks::Stop;
 use zio_exchange::Finished;
 use zio_outside::Disk;
 use zio_script::Failmode;
+use zio_staged::Staged;
 
 /// Runs the trees of a round, whose first attempts are handed out, until each is settled. Each sound round of these
 /// terms goes on until it is over, whatever is picked: then no node is left, and no tree is under way. The requests
 /// that finish are added in order of their completion, a child's before its parent's. It is stopped by a device exactly
 /// where a disk's count of faults rose. Wherever it is stopped, the images have changed only in blocks that the round's
 /// requests name, and at places that met none in use.
-pub fn run_trees<N: Staged, D: Disk + Drop, P: Picks>(
+pub fn run_trees<N: Staged, D: Disk + Drop, P: Picks, H: Helper<N>>(
     turns: &mut Turns<N>,
     grounds: &mut Grounds<D>,
     picks: &mut P,
+    helper: &H,
     round: u32,
     failmode: Failmode,
     trees: &mut Vec<TreeState>,
@@ -36,6 +38,7 @@ pub fn run_trees<N: Staged, D: Disk + Drop, P: Picks>(
     requires runs { RunsSome N.nodes D.bytes D.image turns.old.nodes turns.old.line grounds.old round failmode
         trees.old.items }
     requires over { AreAll (N.over grounds.old.desk.tops) turns.old.nodes }
+    requires can { H.Can }
     ensures runs { OnOk result
         (RunsToEnd N.nodes D.bytes D.image turns.old.nodes turns.old.line grounds.old trees.old.items
         ended.old.items turns.new.nodes turns.new.line grounds.new trees.new.items ended.new.items round failmode) }
@@ -56,7 +59,7 @@ pub fn run_trees<N: Staged, D: Disk + Drop, P: Picks>(
     ensures setting { grounds.new.setting ≡ grounds.old.setting }
 {
     'trees: loop {
-        let Some(heard) = run_to_tree(turns, grounds, picks, ended)? else {
+        let Some(heard) = run_to_tree(turns, grounds, picks, helper, ended)? else {
             return Ok(());
         };
         let tree = heard.tree;

@@ -7,12 +7,12 @@ ghost use Rattle.zio_turns.specs.Slabs.{AreAll};
 ghost use Rattle.zio_turns.specs.UnderTrees.{TreesBegin};
 ghost use Rattle.zio_turns.specs.declared.trees.TreeState.TheVariants.{UnderWay};
 
-use crate::staged::Staged;
 use crate::trees::{TreeState, begin_attempt};
 use crate::turns::Turns;
 use std::alloc::Global;
 use zio_exchange::Whole;
 use zio_script::Failmode;
+use zio_staged::Staged;
 use zio_types::{List, NoMemory};
 
 /// Hands out the first attempt of each of these trees, whose numbers are their places in the list. No node may be there

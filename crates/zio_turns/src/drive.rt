@@ -10,24 +10,29 @@ ghost use Rattle.zio_turns.specs.declared.turn.Turned.TheVariants.{Nothing};
 
 use crate::grounds::Grounds;
 use crate::group::issue_group;
+use crate::helped::help;
+use crate::helper::Helper;
 use crate::picks::Picks;
-use crate::staged::Staged;
 use crate::turn::{Turned, run_turn};
 use crate::turns::Turns;
 use zio_disks::Stop;
+use zio_exchange::Services;
 use zio_outside::Disk;
+use zio_staged::Staged;
 
 /// Runs until a turn has something to tell, or no key is queued and nothing waits at the leaves. The choices are the
 /// queued keys in their order, as many as a pick can tell apart, then each leaf that has a group to issue, in order of
-/// the leaves. Each sound round that goes on goes on, whatever is picked. It is stopped by a device exactly where a
-/// disk's count of faults rose.
-pub fn run_on<N: Staged, D: Disk + Drop, P: Picks>(
+/// the leaves. Before a turn the helper may reckon ahead. Each sound round that goes on goes on, whatever is picked. It
+/// is stopped by a device exactly where a disk's count of faults rose.
+pub fn run_on<N: Staged, D: Disk + Drop, P: Picks, H: Helper<N>>(
     turns: &mut Turns<N>,
     grounds: &mut Grounds<D>,
     picks: &mut P,
+    helper: &H,
 ) -> Result<Turned<N::Seal>, Stop>
     requires going { GoesOnSome N.nodes D.bytes D.image turns.old.nodes turns.old.line grounds.old }
     requires over { AreAll (N.over grounds.old.desk.tops) turns.old.nodes }
+    requires can { H.Can }
     ensures runs { IfOk result
         (RunsOn N.nodes D.bytes D.image turns.old.nodes turns.old.line grounds.old turns.new.nodes
         turns.new.line grounds.new) }
@@ -60,7 +65,8 @@ pub fn run_on<N: Staged, D: Disk + Drop, P: Picks>(
         let pick = picks.pick(choices);
         if pick < keys {
             let key = turns.take(pick as usize);
-            match run_turn(turns, grounds, key)? {
+            help(turns, grounds.alloc, grounds.desk.tops(), helper, key)?;
+            match run_turn(turns, grounds, helper, key)? {
                 Turned::Nothing => {}
                 told => return Ok(told),
             }

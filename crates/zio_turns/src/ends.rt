@@ -22,7 +22,7 @@ ghost use Rattle.zio_turns.specs.Sizes.{FitsBodies};
 ghost use Rattle.zio_turns.specs.UnderTrees.{IsOver};
 ghost use Rattle.zio_turns.specs.declared.entry.TiedNode.{TiedNode as SeenEntry};
 
-use crate::node::NodeFacts;
+use zio_staged::NodeFacts;
 
 /// The requests that finished in a round that is over are those of its trees' values. Each place that was found, or is
 /// of a block that a free named, was given back or is in a block that was made, and these were found: they lie inside

@@ -9,7 +9,7 @@ ghost use Rattle.zio_vqueue.specs.Queues.{FitsDevice, end_of};
 ghost use Rattle.zio_disks.specs.Disks.{Handles};
 ghost use Rattle.zio_groups.specs.Issued.{written_spots};
 ghost use Rattle.zio_turns.specs.AtLeaves.{AreInOrder, AreIssued, IsPut, eligible_at, eligible_leaves, keys_at, no_waits, put_as, waiting_at};
-ghost use Rattle.zio_turns.specs.Entries.{times_in};
+ghost use Rattle.zio_staged.specs.Entries.{times_in};
 ghost use Rattle.zio_turns.specs.Grounds.{AreReady};
 
 use crate::desk::Desk;

@@ -10,11 +10,11 @@ ghost use Rattle.zio_turns.specs.Stops.{StopsWith};
 ghost use Rattle.zio_turns.specs.UnderTurns.{AreAtLeaves, ComeBack, GoesOnSome, IssuesOn, work_left};
 
 use crate::grounds::Grounds;
-use crate::staged::Staged;
 use crate::turns::Turns;
 use zio_disks::Stop;
 use zio_groups::Answered;
 use zio_outside::Disk;
+use zio_staged::Staged;
 use zio_types::{List, NoMemory};
 
 /// Issues the next group of the k-th leaf that has one, and tells each node its answer. Each sound round that goes on

@@ -4,16 +4,16 @@ ghost use Rattle.std.specs.Prelude.{◌≡◌, ◌<◌, IfOk, IfSome, IsTrue, On
 ghost use Rattle.zio_counts.specs.Tallies.{counted};
 ghost use Rattle.zio_blkptr.specs.Pointers.{valid};
 ghost use Rattle.zio_turns.specs.Acts.{AreCounted, AwaitsEnd, AwaitsReady, CanEnd, CanTell, HasEnded, HasTold, IsHandedOn, NodeHeard, NodeTold, StepIn, step_told};
-ghost use Rattle.zio_turns.specs.Stages.{OutcomeIn};
+ghost use Rattle.zio_staged.specs.Stages.{OutcomeIn};
 
 use crate::entry::{Parent, TiedNode, Ties};
 use crate::line::Line;
 use crate::shelf::queue_up;
-use crate::staged::Staged;
 use crate::step::Step;
 use slab::Slab;
 use zio_blkptr::Bp;
 use zio_exchange::{Finished, Outcome};
+use zio_staged::Staged;
 use zio_types::{Bits, ChildKind, Errno, NoMemory, Phase, Top};
 
 /// What a parent counts of a child that became ready or done.

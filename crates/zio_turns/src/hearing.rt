@@ -5,18 +5,19 @@ ghost use Rattle.zio_disks.specs.Disks.{AnyRose, AreSameDisks};
 ghost use Rattle.zio_turns.specs.AtLeaves.{keys_at};
 ghost use Rattle.zio_turns.specs.Slabs.{AreAll};
 ghost use Rattle.zio_turns.specs.Stops.{StopsWith};
-ghost use Rattle.zio_turns.specs.Stages.{OutcomeIn};
+ghost use Rattle.zio_staged.specs.Stages.{OutcomeIn};
 ghost use Rattle.zio_turns.specs.UnderTurns.{GoesOnSome, IsDoneUnless, RunsToTree, work_left};
 
 use crate::drive::run_on;
 use crate::grounds::Grounds;
+use crate::helper::Helper;
 use crate::picks::Picks;
-use crate::staged::Staged;
 use crate::turn::Turned;
 use crate::turns::Turns;
 use zio_disks::Stop;
 use zio_exchange::{Finished, Outcome};
 use zio_outside::Disk;
+use zio_staged::Staged;
 
 /// With what the attempt of a tree of the round ended.
 #[derive(Drop)]
@@ -30,14 +31,16 @@ pub struct Hearing<S> {
 /// requests that finish meanwhile are added in order of their completion, a child's before its parent's. Each sound
 /// round that goes on goes on, whatever is picked. It is stopped by a device exactly where a disk's count of faults
 /// rose.
-pub fn run_to_tree<N: Staged, D: Disk + Drop, P: Picks>(
+pub fn run_to_tree<N: Staged, D: Disk + Drop, P: Picks, H: Helper<N>>(
     turns: &mut Turns<N>,
     grounds: &mut Grounds<D>,
     picks: &mut P,
+    helper: &H,
     ended: &mut Vec<Finished<N::Seal>>,
 ) -> Result<Option<Hearing<N::Seal>>, Stop>
     requires going { GoesOnSome N.nodes D.bytes D.image turns.old.nodes turns.old.line grounds.old }
     requires over { AreAll (N.over grounds.old.desk.tops) turns.old.nodes }
+    requires can { H.Can }
     ensures runs { IfOk result
         (RunsToTree N.nodes D.bytes D.image turns.old.nodes turns.old.line grounds.old ended.old.items
         turns.new.nodes turns.new.line grounds.new ended.new.items) }
@@ -58,7 +61,7 @@ pub fn run_to_tree<N: Staged, D: Disk + Drop, P: Picks>(
     ensures setting { grounds.new.setting ≡ grounds.old.setting }
 {
     'told: loop {
-        match run_on(turns, grounds, picks)? {
+        match run_on(turns, grounds, picks, helper)? {
             Turned::Nothing => return Ok(None),
             Turned::Root(tree, outcome) => return Ok(Some(Hearing { tree, outcome })),
             Turned::Ended(finished) => {

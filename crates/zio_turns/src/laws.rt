@@ -33,10 +33,10 @@ ghost use Rattle.zio_frames.specs.OfRound.{FitsWhichever};
 ghost use Rattle.zio_frames.specs.Running.{FitsTold, all_heard, all_out, settling_from};
 ghost use Rattle.zio_frames.specs.Slots.{Heard, Slot};
 ghost use Rattle.zio_turns.specs.Engine.{IsKept, IsRight, StillKept};
-ghost use Rattle.zio_turns.specs.Entries.{AreWith, Held, IsWith, Live, OfNode, OfTree, OneMore, OneMoreIf, Shelf, all_tops, grown, handed_on, live_of, new_flying, new_held, standing, top_at, with_both, with_node, with_stack};
+ghost use Rattle.zio_staged.specs.Entries.{AreWith, Held, IsWith, Live, OfNode, OfTree, OneMore, OneMoreIf, Shelf, all_tops, grown, handed_on, live_of, new_flying, new_held, standing, top_at, with_both, with_node, with_stack};
 ghost use Rattle.zio_turns.specs.Found.{DoesAsked, IsFound, IsParentFound, IsTreeFound};
 
-use crate::node::NodeFacts;
+use zio_staged::NodeFacts;
 
 /// A round begins with a node for each of its trees. A node under a key does something itself, waits for a count, does
 /// something itself and hands out the operation that it asks then, or goes to a leaf and comes back. The key stands in

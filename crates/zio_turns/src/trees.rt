@@ -6,15 +6,15 @@ ghost use Rattle.zio_gang.specs.Attempts.{now_alone};
 ghost use Rattle.zio_exchange.specs.Wholes.{IsWhole};
 ghost use Rattle.zio_turns.specs.Rounds.{finished_in};
 ghost use Rattle.zio_turns.specs.Slabs.{AreAll};
-ghost use Rattle.zio_turns.specs.Stages.{OutcomeIn};
+ghost use Rattle.zio_staged.specs.Stages.{OutcomeIn};
 ghost use Rattle.zio_turns.specs.UnderTrees.{BeginsOn, EndIn, IsOfAttempt, TreeGoesOn};
 
-use crate::staged::Staged;
 use crate::turns::Turns;
 use std::alloc::Global;
 use zio_counts::REEXECUTIONS_MAX;
 use zio_exchange::{Finished, Outcome, Whole};
 use zio_script::Failmode;
+use zio_staged::Staged;
 use zio_types::{Bits, NoMemory};
 
 /// With what a tree is settled in a round.

@@ -1,16 +1,18 @@
 //! The turn of one node, over what the engine lends.
 
-ghost use Rattle.std.specs.Prelude.{◌≡◌, ◌+◌, ◌<◌, ◌∷◌, Err, IfOk, OnErr, OnOk};
+ghost use Rattle.std.specs.Prelude.{◌≡◌, ◌+◌, ◌<◌, ◌∷◌, ◌++◌, [], Err, IfOk, OnErr, OnOk, if◌then◌else◌};
 ghost use Rattle.zio_turns.specs.Slabs.{AreAll};
 ghost use Rattle.zio_turns.specs.UnderTurns.{AreSameGrounds, GoesOnSome, TurnedIn, TurnsOn, work_left};
 
 use crate::grounds::Grounds;
-use crate::staged::Staged;
+use crate::helper::Helper;
 use crate::step::Step;
 use crate::turns::Turns;
 use zio_disks::Stop;
 use zio_exchange::{Finished, Outcome};
 use zio_outside::Disk;
+use zio_staged::Staged;
+use zio_types::NoMemory;
 
 /// What a turn has to tell.
 #[derive(Drop)]
@@ -23,12 +25,13 @@ pub enum Turned<S> {
     Root(u32, Outcome<S>),
 }
 
-/// The turn of the node under the key: stages one after another until it rests, is at a leaf, or ended. Its operation
-/// then waits at the leaf under the key. Each sound round that goes on with the key in front goes on. After a stop,
-/// which is for want of memory, nothing is said of the nodes.
-pub fn run_turn<N: Staged, D: Disk + Drop>(
+/// The turn of the node under the key: stages one after another until it rests, is at a leaf, or ended, or until it
+/// waits for others like it, as the helper wishes. Its operation then waits at the leaf under the key. Each sound round
+/// that goes on with the key in front goes on. After a stop, which is for want of memory, nothing is said of the nodes.
+pub fn run_turn<N: Staged, D: Disk + Drop, H: Helper<N>>(
     turns: &mut Turns<N>,
     grounds: &mut Grounds<D>,
+    helper: &H,
     key: usize,
 ) -> Result<Turned<N::Seal>, Stop>
     requires going { GoesOnSome N.nodes D.bytes D.image turns.old.nodes (key ∷ turns.old.line) grounds.old }
@@ -48,7 +51,14 @@ pub fn run_turn<N: Staged, D: Disk + Drop>(
             return Err(Stop::Memory);
         };
         match step {
-            Step::Goes => {}
+            Step::Goes => {
+                let Ok(queued) = queue_heavy(turns, helper, key) else {
+                    return Err(Stop::Memory);
+                };
+                if queued {
+                    return Ok(Turned::Nothing);
+                }
+            }
             Step::Told(_) => {}
             Step::Rests => return Ok(Turned::Nothing),
             Step::Ended(None) => return Ok(Turned::Nothing),
@@ -60,4 +70,25 @@ pub fn run_turn<N: Staged, D: Disk + Drop>(
             }
         }
     }
+}
+
+/// Queues the key again where its node has much to reckon, and the helper has such nodes wait. Whether it did.
+#[inline]
+fn queue_heavy<N: Staged, H: Helper<N>>(
+    turns: &mut Turns<N>,
+    helper: &H,
+    key: usize,
+) -> Result<bool, NoMemory>
+    ensures nodes { turns.new.nodes ≡ turns.old.nodes }
+    ensures line { IfOk result (λ queued. turns.new.line ≡
+        (if queued then turns.old.line ++ key ∷ [] else turns.old.line)) }
+{
+    if !helper.waits() {
+        return Ok(false);
+    }
+    if !turns.is_heavy(key) {
+        return Ok(false);
+    }
+    turns.requeue(key)?;
+    Ok(true)
 }

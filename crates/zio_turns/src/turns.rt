@@ -1,11 +1,15 @@
 //! Turns of the nodes that an engine holds.
 
-ghost use Rattle.std.specs.Prelude.{◌≡◌, ◌+◌, ◌*◌, ◌<◌, List as Seq, [], IfOk, OnOk, length, slice_index};
+ghost use Rattle.std.specs.Prelude.{◌≡◌, ◌≢◌, ◌+◌, ◌*◌, ◌<◌, ◌≤◌, ◌∷◌, ◌++◌, ℕ, List as Seq, [], IfOk, IfSome, OnOk, length, slice_index};
 ghost use Rattle.std.specs.List.{remove};
+ghost use Rattle.std.specs.Option.{option_copied};
+ghost use Rattle.slab.specs.Slab.{get};
 ghost use Rattle.zio_types.specs.declared.place.Top.{Top as SeenTop};
 ghost use Rattle.zio_exchange.specs.SpaceCalls.{SpaceCall};
 ghost use Rattle.zio_turns.specs.Acts.{StepIn, load_of};
+ghost use Rattle.zio_staged.specs.Entries.{times_in};
 ghost use Rattle.zio_turns.specs.Desks.{GivesLast};
+ghost use Rattle.zio_turns.specs.Helping.{FitsAt, StaysKept, node_at};
 ghost use Rattle.zio_turns.specs.Rounds.{AsksRightly, Begins, ClaimsAlone, ComesBack, HandsOut, HasTurn, IsAtLeaf, IsTurn, StepsOn};
 ghost use Rattle.zio_turns.specs.Slabs.{AreAll, load};
 
@@ -13,11 +17,11 @@ use crate::entry::{Parent, TiedNode};
 use crate::hear::{end, tell};
 use crate::line::Line;
 use crate::shelf::{add, count_child, grow, new_ties, queue_up, wait};
-use crate::staged::{Staged, Turn};
 use crate::step::Step;
 use slab::Slab;
 use std::alloc::Global;
 use zio_exchange::Services;
+use zio_staged::{Staged, Turn};
 use zio_types::{Bytes, ChildKind, Errno, NoMemory};
 
 /// The nodes of a round under their keys, and the queue of those whose turn it may be.
@@ -73,6 +77,57 @@ impl<N: Staged> Turns<N> {
         ensures len { length self.new.line + 1 ≡ length self.old.line }
     {
         self.line.take(k)
+    }
+
+    /// Queues the key, whose turn it was, behind the others.
+    pub fn requeue(&mut self, key: usize) -> Result<(), NoMemory>
+        ensures kept { OnOk result
+            (StaysKept N.nodes self.old.nodes (key ∷ self.old.line) self.new.nodes self.new.line) }
+        ensures line { OnOk result (self.new.line ≡ self.old.line ++ key ∷ []) }
+        ensures nodes { self.new.nodes ≡ self.old.nodes }
+    {
+        queue_up(&mut self.line, key)
+    }
+
+    /// The node under the key, if there is one.
+    pub fn node(&self, key: usize) -> Option<&N>
+        ensures node { option_copied result ≡ node_at self.now.nodes key }
+        ensures over { (tops : Seq SeenTop) → AreAll (N.over tops) self.now.nodes
+            → IfSome result (λ node. N.over tops node.now) }
+    {
+        match self.nodes.get(key) {
+            Some(entry) => Some(&entry.node),
+            None => None,
+        }
+    }
+
+    /// Whether there is a node under the key whose stage has much to reckon.
+    pub fn is_heavy(&self, key: usize) -> bool {
+        match self.node(key) {
+            Some(node) => node.is_heavy(),
+            None => false,
+        }
+    }
+
+    /// Runs the stage of the node under the key by what was reckoned of it. It is queued, or it is its turn, and that
+    /// stays so; nothing is asked of the space. Without a node there nothing is done.
+    pub fn go_on(&mut self, key: usize, ahead: N::Ahead)
+        requires over { (tops : Seq SeenTop) × AreAll (N.over tops) self.old.nodes }
+        requires fits { FitsAt N.fits self.old.nodes key ahead }
+        ensures kept { (line : Seq ℕ) → 0 < times_in key line
+            → StaysKept N.nodes self.old.nodes line self.new.nodes line }
+        ensures others { (k : ℕ) → k ≢ key → get self.new.nodes k ≡ get self.old.nodes k }
+        ensures over { (tops : Seq SeenTop) → AreAll (N.over tops) self.old.nodes
+            → AreAll (N.over tops) self.new.nodes }
+        ensures line { self.new.line ≡ self.old.line }
+        ensures less { load N.nodes.left self.new.nodes self.new.line
+            ≤ load N.nodes.left self.old.nodes self.old.line }
+    {
+        N::does_its_part();
+        let Some(entry) = self.nodes.get_mut(key) else {
+            return;
+        };
+        entry.node.go_on(ahead);
     }
 
     /// One stage of the node under the key, whose turn it is.

@@ -21,10 +21,10 @@ run_script-requires-clause-tops g c before tells =
 
 pub returns-in-Ok-clause-ran : goal.returns-in-Ok-clause-ran
 returns-in-Ok-clause-ran g c =
-    subst (λ ds. HasReplayed c.args.show.now c.args.script.now g.K.Spelled.journals (map disk_image c.args.runner.disks) (map disk_image ds) c.args.plain.now c.run_script.new.out c.run_script.new.journal)
+    subst (λ ds. HasReplayed c.args.show.now c.args.script.now g.K.Spelled.journals (map disk_image c.args.runner.disks) (map disk_image ds) c.args.plain.now c.run_script.new.out c.run_script.new.journal.journal)
     (sym c.into_disks.ensures)
     (replayed_whole c.args.show.now c.args.script.now g.K.Spelled.journals c.args.runner.disks c.run_script.new.runner.disks c.args.images c.args.plain.now c.run_script.new.out
-    c.run_script.new.journal c.in-Ok.field-0 c.requires.images c.run_script.ensures.chosen c.in-Ok.ensures.whole)
+    c.run_script.new.journal.journal c.in-Ok.field-0 c.requires.images c.run_script.ensures.chosen c.in-Ok.ensures.whole)
 
 pub returns-in-Err-Memory-clause-strange : goal.returns-in-Err-Memory-clause-strange
 returns-in-Err-Memory-clause-strange g c = λ is case same read.
@@ -32,7 +32,7 @@ returns-in-Err-Memory-clause-strange g c = λ is case same read.
     let disks = c.args.runner.disks in
     let before : Images = map disk_image disks in
     let n : RunSize = record { tops = length script.tops; images = c.args.images; requests = length (requests_of script.items) } in
-    let j = c.run_script.new.journal in
+    let j = c.run_script.new.journal.journal in
     let both = and_parts c.run_script.new.runner.stopped c.run_script.new.runner.strange (sym c.is_strange.ensures ∙ c.if-is_strange.true) in
     let cut = rw c.in-Err-Memory.field-0-is at c.in-Err-Memory.ensures.cut in
     let x = cut before (tell_images disks) in

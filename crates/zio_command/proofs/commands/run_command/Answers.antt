@@ -45,8 +45,8 @@ returns-in-Gen-clause-ends g c =
     subst (λ (x : Command). CommandEnds x (source c.args.script.now) (source c.args.script.now) (sink c.args.out.now) (sink c.write_generated.new.out) old old
     c.args.journal.now c.args.journal.now c.write_generated.result.code) (sym c.in-Gen.is) c.write_generated.ensures
 
-pub returns-in-Load-clause-ends : goal.returns-in-Load-clause-ends
-returns-in-Load-clause-ends g c =
+pub returns-clause-ends : goal.returns-clause-ends
+returns-clause-ends g c =
     let source = source_by g.S.Source.left g.S.Source.faults in
     let sink = sink_by g.O.Sink.holds g.O.Sink.faults in
     let saw = shelf_by g.H.Shelf.tells g.H.Shelf.image g.H.Shelf.out g.H.Shelf.faults g.H.Shelf.disk_faults g.H.Shelf.fetches g.H.Shelf.returns g.H.Shelf.last_size in
@@ -66,11 +66,11 @@ returns-in-Load-clause-ends g c =
 pub returns-in-Gen-clause-rest : goal.returns-in-Gen-clause-rest
 returns-in-Gen-clause-rest g c r five eight text told = let no : false ≡ true = ap (λ (x : Command). reads x) (sym c.in-Gen.is) ∙ r in cc
 
-pub returns-in-Load-clause-rest : goal.returns-in-Load-clause-rest
-returns-in-Load-clause-rest g c r five eight text told = let no : false ≡ true = ap (λ (x : Command). reads x) (sym c.in-Load.is) ∙ r in cc
+pub returns-clause-rest : goal.returns-clause-rest
+returns-clause-rest g c r five eight text told = let no : false ≡ true = ap (λ (x : Command). reads x) (sym c.in-Load.is) ∙ r in cc
 
-pub returns-in-Load-clause-unfetched : goal.returns-in-Load-clause-unfetched
-returns-in-Load-clause-unfetched g c codes = elim codes [
+pub returns-clause-unfetched : goal.returns-clause-unfetched
+returns-clause-unfetched g c codes = elim codes [
   | inl two ↦ absurd (script_never c.run_generated.ensures.ends.2 2 two (inr (inl refl)))
   | inr five ↦ absurd (script_never c.run_generated.ensures.ends.2 5 five (inr (inr refl)))
 ]

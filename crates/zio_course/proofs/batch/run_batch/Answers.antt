@@ -13,7 +13,7 @@ use Rattle.zio_course.specs.declared.runner.Stop.TheVariants.{Memory as NoMemory
 use Rattle.zio_course.specs.Admissions.{error_in}
 use Rattle.zio_course.specs.Answered.{answered_in}
 use Rattle.zio_course.specs.Forests.{names_of, running}
-use Rattle.zio_course.specs.Runners.{Standing, numbers_of, requests_in, stopping_of}
+use Rattle.zio_course.specs.Runners.{IsCutRound, Standing, numbers_of, requests_in, stopping_of, terms_at}
 use Rattle.zio_course.specs.Told.{AreFinishedOf, ended_told, line_told}
 use Rattle.zio_course.proofs.BatchLemmas.{Whole, broken_moved, stopped_by, whole_moved}
 use Rattle.zio_course.proofs.EndLemmas.{finished_of_batch}
@@ -29,9 +29,9 @@ tell_batch-requires-clause-finished g c =
     let entries : List (List ℕ × Tree) = c.args.bound.now in
     let runs : List Request = running slots rules c.args.batch.now in
     let trees : List (List Pending) = pending_trees (names_of entries) c.args.number (trees_of runs) in
-    let answered : List Completion = reverse (answered_in (error_in slots rules) (c.args.journal.now.rounds + 1) (requests_of c.args.batch.now)) in
-    let w : Whole (g.R.Runner.standing c.args.runner.now) trees answered (g.R.Runner.tells c.args.runner.now) c.args.failmode (c.args.journal.now.rounds + 1) c.args.point
-    c.args.journal.now c.whole_round.new.journal (g.R.Runner.standing c.whole_round.new.runner) (g.R.Runner.tells c.whole_round.new.runner)
+    let answered : List Completion = reverse (answered_in (error_in slots rules) (c.rounds-round.result + 1) (requests_of c.args.batch.now)) in
+    let w : Whole (g.R.Runner.standing c.args.runner.now) trees answered (g.R.Runner.tells c.args.runner.now) c.args.failmode (c.rounds-round.result + 1) c.args.point
+    (g.J.Records.seen c.args.journal.now) (g.J.Records.seen c.whole_round.new.journal) (g.R.Runner.standing c.whole_round.new.runner) (g.R.Runner.tells c.whole_round.new.runner)
     c.in_ok-finished.field-0.finished (map g.R.Runner.pending c.in_ok-finished.field-0.left) =
     whole_moved _ _ _ _ _ _ _ _ _ _ _ _ _ _ _ _ _ c.in_ok-trees.ensures.stays.standing c.in_ok-trees.ensures.trees c.in_ok-answered.ensures
     (λ images h. (c.in_ok-trees.ensures.stays.images images).0 h) c.in_ok-finished.ensures.whole in
@@ -54,8 +54,10 @@ returns-in_err-finished-clause-cut g c =
     stopped_by c.from_residual-in_err-finished.result c.in_err-finished.field-0.0 _ c.from_residual-in_err-finished.ensures.1
     (λ before told.
     (let x = c.in_err-finished.ensures.cut before ((c.in_ok-trees.ensures.stays.images before).0 told) in
+    let cut = subst (λ (n : ℕ). IsCutRound c.in_err-finished.field-0.0 (stopping_of (g.R.Runner.standing c.whole_round.new.runner) (g.R.Runner.stops c.whole_round.new.runner))
+    (terms_at (g.R.Runner.standing c.trees_to_run.new.runner) c.args.failmode (n + 1) c.args.point) (map g.R.Runner.pending c.in_ok-trees.trees) before x.0) c.rounds-round.ensures x.2 in
     let moved = broken_moved (g.R.Runner.standing c.args.runner.now) (g.R.Runner.standing c.trees_to_run.new.runner) (stopping_of (g.R.Runner.standing c.whole_round.new.runner) (g.R.Runner.stops c.whole_round.new.runner)) c.in_err-finished.field-0.0
-    _ _ c.args.failmode (c.args.journal.now.rounds + 1) c.args.point before x.0 c.in_ok-trees.ensures.stays.standing c.in_ok-trees.ensures.trees (x.2, x.3) in
+    _ _ c.args.failmode ((g.J.Records.seen c.args.journal.now).rounds + 1) c.args.point before x.0 c.in_ok-trees.ensures.stays.standing c.in_ok-trees.ensures.trees (cut, x.3) in
     (x.0, x.1, inr (inl (c.in_err-finished.ensures.kept, moved.0, moved.1)))))
 
 pub returns-in_err-lines-clause-cut : goal.returns-in_err-lines-clause-cut
@@ -64,12 +66,15 @@ returns-in_err-lines-clause-cut g c =
     let rules : List Rules = c.args.admission.now.rules.items in
     let entries : List (List ℕ × Tree) = c.args.bound.now in
     let trees : List (List Pending) = pending_trees (names_of entries) c.args.number (trees_of (running slots rules c.args.batch.now)) in
-    let answered : List Completion = reverse (answered_in (error_in slots rules) (c.args.journal.now.rounds + 1) (requests_of c.args.batch.now)) in
-    let w : Whole (g.R.Runner.standing c.args.runner.now) trees answered (g.R.Runner.tells c.args.runner.now) c.args.failmode (c.args.journal.now.rounds + 1) c.args.point
-    c.args.journal.now c.whole_round.new.journal (g.R.Runner.standing c.whole_round.new.runner) (g.R.Runner.tells c.whole_round.new.runner)
+    let answered : List Completion = reverse (answered_in (error_in slots rules) ((g.J.Records.seen c.args.journal.now).rounds + 1) (requests_of c.args.batch.now)) in
+    let w : Whole (g.R.Runner.standing c.args.runner.now) trees answered (g.R.Runner.tells c.args.runner.now) c.args.failmode ((g.J.Records.seen c.args.journal.now).rounds + 1) c.args.point
+    (g.J.Records.seen c.args.journal.now) (g.J.Records.seen c.whole_round.new.journal) (g.R.Runner.standing c.whole_round.new.runner) (g.R.Runner.tells c.whole_round.new.runner)
     c.in_ok-finished.field-0.finished (map g.R.Runner.pending c.in_ok-finished.field-0.left) =
-    whole_moved _ _ _ _ _ _ _ _ _ _ _ _ _ _ _ _ _ c.in_ok-trees.ensures.stays.standing c.in_ok-trees.ensures.trees c.in_ok-answered.ensures
-    (λ images h. (c.in_ok-trees.ensures.stays.images images).0 h) c.in_ok-finished.ensures.whole in
+    subst (λ (n : ℕ). Whole (g.R.Runner.standing c.args.runner.now) trees (reverse (answered_in (error_in slots rules) (n + 1) (requests_of c.args.batch.now))) (g.R.Runner.tells c.args.runner.now) c.args.failmode (n + 1) c.args.point
+    (g.J.Records.seen c.args.journal.now) (g.J.Records.seen c.whole_round.new.journal) (g.R.Runner.standing c.whole_round.new.runner) (g.R.Runner.tells c.whole_round.new.runner)
+    c.in_ok-finished.field-0.finished (map g.R.Runner.pending c.in_ok-finished.field-0.left)) c.rounds-round.ensures
+    (whole_moved _ _ _ _ _ _ _ _ _ _ _ _ _ _ _ _ _ c.in_ok-trees.ensures.stays.standing c.in_ok-trees.ensures.trees c.in_ok-answered.ensures
+    (λ images h. (c.in_ok-trees.ensures.stays.images images).0 h) c.in_ok-finished.ensures.whole) in
     stopped_by c.from_residual-in_err-lines.result NoMemory _ c.from_residual-in_err-lines.ensures.1
     (λ before told.
     (let after = w.4 before told in (
@@ -87,12 +92,15 @@ returns-clause-ran g c =
     let entries : List (List ℕ × Tree) = c.args.bound.now in
     let after_bound : List (List ℕ × Tree) = c.tell_batch.new.bound in
     let trees : List (List Pending) = pending_trees (names_of entries) c.args.number (trees_of (running slots rules c.args.batch.now)) in
-    let answered : List Completion = reverse (answered_in error (c.args.journal.now.rounds + 1) requests) in
-    let w : Whole (g.R.Runner.standing c.args.runner.now) trees answered (g.R.Runner.tells c.args.runner.now) c.args.failmode (c.args.journal.now.rounds + 1) c.args.point
-    c.args.journal.now c.whole_round.new.journal (g.R.Runner.standing c.whole_round.new.runner) (g.R.Runner.tells c.whole_round.new.runner)
+    let answered : List Completion = reverse (answered_in error ((g.J.Records.seen c.args.journal.now).rounds + 1) requests) in
+    let w : Whole (g.R.Runner.standing c.args.runner.now) trees answered (g.R.Runner.tells c.args.runner.now) c.args.failmode ((g.J.Records.seen c.args.journal.now).rounds + 1) c.args.point
+    (g.J.Records.seen c.args.journal.now) (g.J.Records.seen c.whole_round.new.journal) (g.R.Runner.standing c.whole_round.new.runner) (g.R.Runner.tells c.whole_round.new.runner)
     c.in_ok-finished.field-0.finished (map g.R.Runner.pending c.in_ok-finished.field-0.left) =
-    whole_moved _ _ _ _ _ _ _ _ _ _ _ _ _ _ _ _ _ c.in_ok-trees.ensures.stays.standing c.in_ok-trees.ensures.trees c.in_ok-answered.ensures
-    (λ images h. (c.in_ok-trees.ensures.stays.images images).0 h) c.in_ok-finished.ensures.whole in (
+    subst (λ (n : ℕ). Whole (g.R.Runner.standing c.args.runner.now) trees (reverse (answered_in error (n + 1) requests)) (g.R.Runner.tells c.args.runner.now) c.args.failmode (n + 1) c.args.point
+    (g.J.Records.seen c.args.journal.now) (g.J.Records.seen c.whole_round.new.journal) (g.R.Runner.standing c.whole_round.new.runner) (g.R.Runner.tells c.whole_round.new.runner)
+    c.in_ok-finished.field-0.finished (map g.R.Runner.pending c.in_ok-finished.field-0.left)) c.rounds-round.ensures
+    (whole_moved _ _ _ _ _ _ _ _ _ _ _ _ _ _ _ _ _ c.in_ok-trees.ensures.stays.standing c.in_ok-trees.ensures.trees c.in_ok-answered.ensures
+    (λ images h. (c.in_ok-trees.ensures.stays.images images).0 h) c.in_ok-finished.ensures.whole) in (
       w.0,
       record {
         journal = record { places = w.1.places; completions = w.1.completions; rounds = w.1.rounds; finished_is = refl; left_is = w.1.left_is };
@@ -113,9 +121,9 @@ returns-clause-shown g c =
     let requests : List Request = requests_of c.args.batch.now in
     let entries : List (List ℕ × Tree) = c.args.bound.now in
     let trees : List (List Pending) = pending_trees (names_of entries) c.args.number (trees_of (running slots rules c.args.batch.now)) in
-    let answered : List Completion = reverse (answered_in error (c.args.journal.now.rounds + 1) requests) in
-    let w : Whole (g.R.Runner.standing c.args.runner.now) trees answered (g.R.Runner.tells c.args.runner.now) c.args.failmode (c.args.journal.now.rounds + 1) c.args.point
-    c.args.journal.now c.whole_round.new.journal (g.R.Runner.standing c.whole_round.new.runner) (g.R.Runner.tells c.whole_round.new.runner)
+    let answered : List Completion = reverse (answered_in error (c.rounds-round.result + 1) requests) in
+    let w : Whole (g.R.Runner.standing c.args.runner.now) trees answered (g.R.Runner.tells c.args.runner.now) c.args.failmode (c.rounds-round.result + 1) c.args.point
+    (g.J.Records.seen c.args.journal.now) (g.J.Records.seen c.whole_round.new.journal) (g.R.Runner.standing c.whole_round.new.runner) (g.R.Runner.tells c.whole_round.new.runner)
     c.in_ok-finished.field-0.finished (map g.R.Runner.pending c.in_ok-finished.field-0.left) =
     whole_moved _ _ _ _ _ _ _ _ _ _ _ _ _ _ _ _ _ c.in_ok-trees.ensures.stays.standing c.in_ok-trees.ensures.trees c.in_ok-answered.ensures
     (λ images h. (c.in_ok-trees.ensures.stays.images images).0 h) c.in_ok-finished.ensures.whole in

@@ -1,4 +1,4 @@
-use Rattle.std.proofs.Common.{◌≤◌, length, ap, rules, arith, ◌∙◌}
+use Rattle.std.proofs.Common.{◌≤◌, length, ap, rules, ◌∙◌}
 use Rattle.zio_course.specs.Names.{byte_order}
 use Rattle.zio_course.proofs.NameLemmas.{order_of}
 use Rattle.zio_course.proofs.bound.rank.Goals as goal

@@ -11,7 +11,7 @@ pub returns-then-is_empty-clause-ran : goal.returns-then-is_empty-clause-ran
 returns-then-is_empty-clause-ran g c =
     let f : SeenFold = fold_seen g.R.Runner.pending c.args.fold.now in
     let none : has_trees f.suspended ≡ false = trees_items g.R.Runner.pending c.args.fold.now.suspended ∙ ap has_items (c.is_empty.ensures.0 c.if-is_empty.true) in
-    waiting_none c.args.show.now c.args.failmode (g.R.Runner.standing c.args.runner.now) f c.args.journal.now (g.R.Runner.tells c.args.runner.now) (g.O.Sink.holds c.args.out.now) none
+    waiting_none c.args.show.now c.args.failmode (g.R.Runner.standing c.args.runner.now) f (g.J.Records.seen c.args.journal.now) (g.R.Runner.tells c.args.runner.now) (g.O.Sink.holds c.args.out.now) none
 
 pub returns-then-is_empty-clause-going : goal.returns-then-is_empty-clause-going
 returns-then-is_empty-clause-going g c held later spare h = going_less _ _ _ _ held later spare h
@@ -23,7 +23,7 @@ returns-else-is_empty-clause-ran g c =
     let now : Standing = g.R.Runner.standing c.clear_round.new.runner in
     let some : has_trees f.suspended ≡ true = trees_items g.R.Runner.pending c.args.fold.now.suspended ∙ not_empty c.is_empty.result c.args.fold.now.suspended c.is_empty.ensures.1 c.if-is_empty.false in
     ok_step c.clear_round.result _ _
-    (waiting_some c.args.show.now c.args.failmode s now f (fold_seen g.R.Runner.pending c.clear_round.new.fold) c.args.journal.now c.clear_round.new.journal (g.R.Runner.tells c.args.runner.now) (g.R.Runner.tells c.clear_round.new.runner)
+    (waiting_some c.args.show.now c.args.failmode s now f (fold_seen g.R.Runner.pending c.clear_round.new.fold) (g.J.Records.seen c.args.journal.now) (g.J.Records.seen c.clear_round.new.journal) (g.R.Runner.tells c.args.runner.now) (g.R.Runner.tells c.clear_round.new.runner)
     (g.O.Sink.holds c.args.out.now) (g.O.Sink.holds c.clear_round.new.out) some) c.clear_round.ensures.ran
 
 pub returns-else-is_empty-clause-cut : goal.returns-else-is_empty-clause-cut
@@ -33,7 +33,7 @@ returns-else-is_empty-clause-cut g c =
     let now : Standing = g.R.Runner.standing c.clear_round.new.runner in
     let some : has_trees f.suspended ≡ true = trees_items g.R.Runner.pending c.args.fold.now.suspended ∙ not_empty c.is_empty.result c.args.fold.now.suspended c.is_empty.ensures.1 c.if-is_empty.false in
     err_step c.clear_round.result _ _
-    (λ e. waiting_cut c.args.show.now c.args.failmode s f c.args.journal.now c.clear_round.new.journal (g.R.Runner.tells c.args.runner.now) (g.R.Runner.tells c.clear_round.new.runner)
+    (λ e. waiting_cut c.args.show.now c.args.failmode s f (g.J.Records.seen c.args.journal.now) (g.J.Records.seen c.clear_round.new.journal) (g.R.Runner.tells c.args.runner.now) (g.R.Runner.tells c.clear_round.new.runner)
     (g.O.Sink.holds c.args.out.now) (g.O.Sink.holds c.clear_round.new.out) e some) c.clear_round.ensures.cut
 
 pub returns-else-is_empty-clause-going : goal.returns-else-is_empty-clause-going
@@ -46,4 +46,4 @@ returns-else-is_empty-clause-going g c =
     (λ waits few steady counted again more held later spare h.
     (let x = len_map (λ (r : Bor Request). r.now) c.args.fold.now.unfinished.items in
     let y = len_map (λ (r : Bor Request). r.now) c.clear_round.new.fold.unfinished.items in
-    going_clear g.R.Runner.fits s now c.args.journal.now.rounds c.clear_round.new.journal.rounds f (fold_seen g.R.Runner.pending c.clear_round.new.fold) held later spare waits.0 h steady c.clear_round.ensures.rows counted waits.1 (omega arith)))
+    going_clear g.R.Runner.fits s now (g.J.Records.seen c.args.journal.now).rounds (g.J.Records.seen c.clear_round.new.journal).rounds f (fold_seen g.R.Runner.pending c.clear_round.new.fold) held later spare waits.0 h steady c.clear_round.ensures.rows counted waits.1 (omega arith)))

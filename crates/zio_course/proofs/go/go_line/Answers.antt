@@ -24,9 +24,9 @@ batch_round-requires-clause-rising g c =
     let runs : (not (has_trees f.suspended) || goes_on c.args.failmode) ≡ true =
     ap (λ (x : Bool). not x || goes_on c.args.failmode) (trees_items g.R.Runner.pending c.args.fold.now.suspended) ∙ (sym c.runs_now.ensures ∙ c.if-runs_now.true) in
     let none : held ≡ [] = c.requires.waits runs in
-    let going : IsGoing g.R.Runner.fits s c.args.journal.now.rounds f (b ∷ []) c.requires.going.0 c.requires.going.1 =
-    going_take g.R.Runner.fits s c.args.journal.now.rounds f [] b c.requires.going.0 c.requires.going.1 c.requires.number
-    (subst (λ (bs : List DefinedBatch). IsGoing g.R.Runner.fits s c.args.journal.now.rounds f bs (b.requests ∷ c.requires.going.0) (c.requires.going.1 + 1)) none c.requires.going.2) in
+    let going : IsGoing g.R.Runner.fits s (g.J.Records.seen c.args.journal.now).rounds f (b ∷ []) c.requires.going.0 c.requires.going.1 =
+    going_take g.R.Runner.fits s (g.J.Records.seen c.args.journal.now).rounds f [] b c.requires.going.0 c.requires.going.1 c.requires.number
+    (subst (λ (bs : List DefinedBatch). IsGoing g.R.Runner.fits s (g.J.Records.seen c.args.journal.now).rounds f bs (b.requests ∷ c.requires.going.0) (c.requires.going.1 + 1)) none c.requires.going.2) in
     first_two f.unfinished b.requests (requests_in_all c.requires.going.0) going.rising
 
 pub batch_round-requires-clause-steady : goal.batch_round-requires-clause-steady
@@ -41,9 +41,9 @@ batch_round-requires-clause-orderly g c =
     let runs : (not (has_trees f.suspended) || goes_on c.args.failmode) ≡ true =
     ap (λ (x : Bool). not x || goes_on c.args.failmode) (trees_items g.R.Runner.pending c.args.fold.now.suspended) ∙ (sym c.runs_now.ensures ∙ c.if-runs_now.true) in
     let none : held ≡ [] = c.requires.waits runs in
-    let going : IsGoing g.R.Runner.fits s c.args.journal.now.rounds f (b ∷ []) c.requires.going.0 c.requires.going.1 =
-    going_take g.R.Runner.fits s c.args.journal.now.rounds f [] b c.requires.going.0 c.requires.going.1 c.requires.number
-    (subst (λ (bs : List DefinedBatch). IsGoing g.R.Runner.fits s c.args.journal.now.rounds f bs (b.requests ∷ c.requires.going.0) (c.requires.going.1 + 1)) none c.requires.going.2) in
+    let going : IsGoing g.R.Runner.fits s (g.J.Records.seen c.args.journal.now).rounds f (b ∷ []) c.requires.going.0 c.requires.going.1 =
+    going_take g.R.Runner.fits s (g.J.Records.seen c.args.journal.now).rounds f [] b c.requires.going.0 c.requires.going.1 c.requires.number
+    (subst (λ (bs : List DefinedBatch). IsGoing g.R.Runner.fits s (g.J.Records.seen c.args.journal.now).rounds f bs (b.requests ∷ c.requires.going.0) (c.requires.going.1 + 1)) none c.requires.going.2) in
     going.orderly.0
 
 pub batch_round-requires-clause-rounds : goal.batch_round-requires-clause-rounds
@@ -55,10 +55,10 @@ batch_round-requires-clause-rounds g c =
     let runs : (not (has_trees f.suspended) || goes_on c.args.failmode) ≡ true =
     ap (λ (x : Bool). not x || goes_on c.args.failmode) (trees_items g.R.Runner.pending c.args.fold.now.suspended) ∙ (sym c.runs_now.ensures ∙ c.if-runs_now.true) in
     let none : held ≡ [] = c.requires.waits runs in
-    let going : IsGoing g.R.Runner.fits s c.args.journal.now.rounds f (b ∷ []) c.requires.going.0 c.requires.going.1 =
-    going_take g.R.Runner.fits s c.args.journal.now.rounds f [] b c.requires.going.0 c.requires.going.1 c.requires.number
-    (subst (λ (bs : List DefinedBatch). IsGoing g.R.Runner.fits s c.args.journal.now.rounds f bs (b.requests ∷ c.requires.going.0) (c.requires.going.1 + 1)) none c.requires.going.2) in
-    first_fits c.args.journal.now.rounds 0 c.requires.going.1 going.rounds_fit
+    let going : IsGoing g.R.Runner.fits s (g.J.Records.seen c.args.journal.now).rounds f (b ∷ []) c.requires.going.0 c.requires.going.1 =
+    going_take g.R.Runner.fits s (g.J.Records.seen c.args.journal.now).rounds f [] b c.requires.going.0 c.requires.going.1 c.requires.number
+    (subst (λ (bs : List DefinedBatch). IsGoing g.R.Runner.fits s (g.J.Records.seen c.args.journal.now).rounds f bs (b.requests ∷ c.requires.going.0) (c.requires.going.1 + 1)) none c.requires.going.2) in
+    first_fits (g.J.Records.seen c.args.journal.now).rounds 0 c.requires.going.1 going.rounds_fit
 
 pub batch_round-requires-clause-few : goal.batch_round-requires-clause-few
 batch_round-requires-clause-few g c =
@@ -69,9 +69,9 @@ batch_round-requires-clause-few g c =
     let runs : (not (has_trees f.suspended) || goes_on c.args.failmode) ≡ true =
     ap (λ (x : Bool). not x || goes_on c.args.failmode) (trees_items g.R.Runner.pending c.args.fold.now.suspended) ∙ (sym c.runs_now.ensures ∙ c.if-runs_now.true) in
     let none : held ≡ [] = c.requires.waits runs in
-    let going : IsGoing g.R.Runner.fits s c.args.journal.now.rounds f (b ∷ []) c.requires.going.0 c.requires.going.1 =
-    going_take g.R.Runner.fits s c.args.journal.now.rounds f [] b c.requires.going.0 c.requires.going.1 c.requires.number
-    (subst (λ (bs : List DefinedBatch). IsGoing g.R.Runner.fits s c.args.journal.now.rounds f bs (b.requests ∷ c.requires.going.0) (c.requires.going.1 + 1)) none c.requires.going.2) in
+    let going : IsGoing g.R.Runner.fits s (g.J.Records.seen c.args.journal.now).rounds f (b ∷ []) c.requires.going.0 c.requires.going.1 =
+    going_take g.R.Runner.fits s (g.J.Records.seen c.args.journal.now).rounds f [] b c.requires.going.0 c.requires.going.1 c.requires.number
+    (subst (λ (bs : List DefinedBatch). IsGoing g.R.Runner.fits s (g.J.Records.seen c.args.journal.now).rounds f bs (b.requests ∷ c.requires.going.0) (c.requires.going.1 + 1)) none c.requires.going.2) in
     first_few (c.args.fold.now.tally.good + c.args.fold.now.tally.bad) f.unfinished b.requests (requests_in_all c.requires.going.0) going.few
 
 pub returns-then-runs_now-clause-ran : goal.returns-then-runs_now-clause-ran
@@ -84,7 +84,7 @@ returns-then-runs_now-clause-ran g c =
     ap (λ (x : Bool). not x || goes_on c.args.failmode) (trees_items g.R.Runner.pending c.args.fold.now.suspended) ∙ (sym c.runs_now.ensures ∙ c.if-runs_now.true) in
     let none : held ≡ [] = c.requires.waits runs in
     ok_step c.batch_round.result _ _
-    (λ step batches number. line_runs c.args.show.now c.args.failmode s (g.R.Runner.standing c.batch_round.new.runner) f (fold_seen g.R.Runner.pending c.batch_round.new.fold) held b batches c.args.journal.now c.batch_round.new.journal
+    (λ step batches number. line_runs c.args.show.now c.args.failmode s (g.R.Runner.standing c.batch_round.new.runner) f (fold_seen g.R.Runner.pending c.batch_round.new.fold) held b batches (g.J.Records.seen c.args.journal.now) (g.J.Records.seen c.batch_round.new.journal)
     (g.R.Runner.tells c.args.runner.now) (g.R.Runner.tells c.batch_round.new.runner) (g.O.Sink.holds c.args.out.now) (g.O.Sink.holds c.batch_round.new.out) runs none number step) c.batch_round.ensures.ran
 
 pub returns-then-runs_now-clause-cut : goal.returns-then-runs_now-clause-cut
@@ -97,7 +97,7 @@ returns-then-runs_now-clause-cut g c =
     ap (λ (x : Bool). not x || goes_on c.args.failmode) (trees_items g.R.Runner.pending c.args.fold.now.suspended) ∙ (sym c.runs_now.ensures ∙ c.if-runs_now.true) in
     let none : held ≡ [] = c.requires.waits runs in
     err_step c.batch_round.result _ _
-    (λ e step batches number. line_runs_cut c.args.show.now c.args.failmode s f held b batches c.args.journal.now c.batch_round.new.journal
+    (λ e step batches number. line_runs_cut c.args.show.now c.args.failmode s f held b batches (g.J.Records.seen c.args.journal.now) (g.J.Records.seen c.batch_round.new.journal)
     (g.R.Runner.tells c.args.runner.now) (g.R.Runner.tells c.batch_round.new.runner) (g.O.Sink.holds c.args.out.now) (g.O.Sink.holds c.batch_round.new.out) e runs none number step) c.batch_round.ensures.cut
 
 pub returns-then-runs_now-clause-going : goal.returns-then-runs_now-clause-going
@@ -113,10 +113,10 @@ returns-then-runs_now-clause-going g c =
     (λ waits few steady counted again more later spare h.
     (let x = len_map (λ (r : Bor Request). r.now) c.args.fold.now.unfinished.items in
     let y = len_map (λ (r : Bor Request). r.now) c.batch_round.new.fold.unfinished.items in
-    subst (λ (bs : List DefinedBatch). IsGoing g.R.Runner.fits (g.R.Runner.standing c.batch_round.new.runner) c.batch_round.new.journal.rounds (fold_seen g.R.Runner.pending c.batch_round.new.fold) bs later spare) (sym none)
-    (going_batch g.R.Runner.fits s (g.R.Runner.standing c.batch_round.new.runner) c.args.journal.now.rounds c.batch_round.new.journal.rounds f (fold_seen g.R.Runner.pending c.batch_round.new.fold) b [] later spare waits.0
-    (going_take g.R.Runner.fits s c.args.journal.now.rounds f [] b later spare c.requires.number
-    (subst (λ (bs : List DefinedBatch). IsGoing g.R.Runner.fits s c.args.journal.now.rounds f bs (b.requests ∷ later) (spare + 1)) none h))
+    subst (λ (bs : List DefinedBatch). IsGoing g.R.Runner.fits (g.R.Runner.standing c.batch_round.new.runner) (g.J.Records.seen c.batch_round.new.journal).rounds (fold_seen g.R.Runner.pending c.batch_round.new.fold) bs later spare) (sym none)
+    (going_batch g.R.Runner.fits s (g.R.Runner.standing c.batch_round.new.runner) (g.J.Records.seen c.args.journal.now).rounds (g.J.Records.seen c.batch_round.new.journal).rounds f (fold_seen g.R.Runner.pending c.batch_round.new.fold) b [] later spare waits.0
+    (going_take g.R.Runner.fits s (g.J.Records.seen c.args.journal.now).rounds f [] b later spare c.requires.number
+    (subst (λ (bs : List DefinedBatch). IsGoing g.R.Runner.fits s (g.J.Records.seen c.args.journal.now).rounds f bs (b.requests ∷ later) (spare + 1)) none h))
     steady c.batch_round.ensures.rows counted waits.1 (omega arith))))
 
 pub returns-then-runs_now-clause-waits : goal.returns-then-runs_now-clause-waits
@@ -142,9 +142,9 @@ returns-else-runs_now-clause-ran g c =
     (λ held_is wrote q1 q2 q3 q4 batches number n script before images later printed rest mode orderly h told. (
       images,
       shown_of c.args.show.now (held_text b.number),
-      subst (λ (bs : List DefinedBatch). IsCourseAt c.args.show.now n script before s f (record { held = bs; batch = []; batches = batches + 1 }) (requests_held bs ++ later) c.args.journal.now images (printed ++ shown_of c.args.show.now (held_text b.number)) rest)
+      subst (λ (bs : List DefinedBatch). IsCourseAt c.args.show.now n script before s f (record { held = bs; batch = []; batches = batches + 1 }) (requests_held bs ++ later) (g.J.Records.seen c.args.journal.now) images (printed ++ shown_of c.args.show.now (held_text b.number)) rest)
           (sym (ap batches_seen held_is ∙ map_two batch_seen c.args.held.now.items (c.args.batch.now ∷ [])))
-          (holds_at c.args.show.now n script before s f held b batches later c.args.journal.now images printed rest (ap (λ (m : Failmode). not (has_trees f.suspended) || goes_on m) mode ∙ waits) number h),
+          (holds_at c.args.show.now n script before s f held b batches later (g.J.Records.seen c.args.journal.now) images printed rest (ap (λ (m : Failmode). not (has_trees f.suspended) || goes_on m) mode ∙ waits) number h),
       told,
       wrote,
     ))
@@ -163,7 +163,7 @@ returns-else-runs_now-clause-cut g c =
       images,
       printed ++ shown_of c.args.show.now (held_text b.number),
       cut_at _ _ _ _ _ _ _ _ _ _ _ _ Sink tt c.requires.going.2.steady.runs
-          (holds_at c.args.show.now n script before s f held b batches later c.args.journal.now images printed rest (ap (λ (m : Failmode). not (has_trees f.suspended) || goes_on m) mode ∙ waits) number h),
+          (holds_at c.args.show.now n script before s f held b batches later (g.J.Records.seen c.args.journal.now) images printed rest (ap (λ (m : Failmode). not (has_trees f.suspended) || goes_on m) mode ∙ waits) number h),
       told,
       part_written (g.O.Sink.holds c.args.out.now) (g.O.Sink.holds c.hold.new.out) printed (shown_of c.args.show.now (held_text b.number)) (c.hold.ensures.front is),
     ))
@@ -186,8 +186,8 @@ returns-else-runs_now-clause-going g c =
     ap (λ (x : Bool). not x || goes_on c.args.failmode) (trees_items g.R.Runner.pending c.args.fold.now.suspended) ∙ (sym c.runs_now.ensures ∙ c.if-runs_now.false) in
     ok_step c.hold.result _ _
     (λ held_is later spare h.
-    subst (λ (bs : List DefinedBatch). IsGoing g.R.Runner.fits s c.args.journal.now.rounds f bs later spare) (sym (ap batches_seen held_is ∙ map_two batch_seen c.args.held.now.items (c.args.batch.now ∷ [])))
-    (going_take g.R.Runner.fits s c.args.journal.now.rounds f held b later spare c.requires.number h)) c.hold.ensures.held
+    subst (λ (bs : List DefinedBatch). IsGoing g.R.Runner.fits s (g.J.Records.seen c.args.journal.now).rounds f bs later spare) (sym (ap batches_seen held_is ∙ map_two batch_seen c.args.held.now.items (c.args.batch.now ∷ [])))
+    (going_take g.R.Runner.fits s (g.J.Records.seen c.args.journal.now).rounds f held b later spare c.requires.number h)) c.hold.ensures.held
 
 pub returns-else-runs_now-clause-waits : goal.returns-else-runs_now-clause-waits
 returns-else-runs_now-clause-waits g c =

@@ -7,10 +7,10 @@ use Rattle.zio_course.proofs.held.run_held.Given as goal
 
 abbrev pub invariant-loop-alloc : goal.invariant-loop-alloc
 invariant-loop-alloc g l = record {
-  going : (later : List (List Request)) (spare : ℕ) → IsGoing g.R.Runner.fits (g.R.Runner.standing l.fn.runner) l.fn.journal.rounds (fold_seen g.R.Runner.pending l.fn.fold) (batches_seen l.fn.held.items) later spare
-      → IsGoing g.R.Runner.fits (g.R.Runner.standing l.runner) l.journal.rounds (fold_seen g.R.Runner.pending l.fold) (batches_seen l.held.items) later spare;
+  going : (later : List (List Request)) (spare : ℕ) → IsGoing g.R.Runner.fits (g.R.Runner.standing l.fn.runner) (g.J.Records.seen l.fn.journal).rounds (fold_seen g.R.Runner.pending l.fn.fold) (batches_seen l.fn.held.items) later spare
+      → IsGoing g.R.Runner.fits (g.R.Runner.standing l.runner) (g.J.Records.seen l.journal).rounds (fold_seen g.R.Runner.pending l.fold) (batches_seen l.held.items) later spare;
   ran : HeldRan l.show l.failmode (g.R.Runner.standing l.fn.runner) (g.R.Runner.standing l.runner) (fold_seen g.R.Runner.pending l.fn.fold) (fold_seen g.R.Runner.pending l.fold)
-      (batches_seen l.fn.held.items) (batches_seen l.held.items) l.fn.journal l.journal (g.R.Runner.tells l.fn.runner) (g.R.Runner.tells l.runner) (g.O.Sink.holds l.fn.out) (g.O.Sink.holds l.out);
+      (batches_seen l.fn.held.items) (batches_seen l.held.items) (g.J.Records.seen l.fn.journal) (g.J.Records.seen l.journal) (g.R.Runner.tells l.fn.runner) (g.R.Runner.tells l.runner) (g.O.Sink.holds l.fn.out) (g.O.Sink.holds l.out);
   less : length l.held.items ≤ length l.fn.held.items;
   tops : (g.R.Runner.standing l.runner).tops ≡ (g.R.Runner.standing l.fn.runner).tops;
   rows : (g.R.Runner.standing l.runner).rows ≡ (g.R.Runner.standing l.fn.runner).rows;
@@ -18,7 +18,7 @@ invariant-loop-alloc g l = record {
   faults : (g.R.Runner.standing l.runner).faults ≡ (g.R.Runner.standing l.fn.runner).faults;
   quiet : g.O.Sink.faults l.out ≡ g.O.Sink.faults l.fn.out;
   can : g.R.Runner.Can l.runner;
-  chosen : AreOfRounds g.R.Runner.chosen l.journal.rounds l.journal.places;
+  chosen : AreOfRounds g.R.Runner.chosen (g.J.Records.seen l.journal).rounds (g.J.Records.seen l.journal).places;
   same : g.R.Runner.same l.fn.runner l.runner;
 }
 

@@ -88,8 +88,8 @@ returns-in_err-end-clause-cut g c =
     by_stop c.from_residual-in_err-end.result c.in_err-end.field-0.0 _ c.from_residual-in_err-end.ensures.1
     (λ n script before images ahead later printed rest mode orderly h tells.
     (let short = c.in_err-end.ensures.cut images tells in
-    let cut = batch_short c.args.show.now n script before s (g.R.Runner.standing c.run_batch.new.runner) f ahead later c.args.journal.now c.run_batch.new.journal images short.0 printed items c.args.batch.now.number slots rules c.args.failmode rest
-    g.R.Runner.fits c.args.journal.now.rounds c.in_err-end.field-0.0 (g.O.Sink.holds c.args.out.now) mode orderly h c.requires.steady c.requires.orderly admission_is (rising_both _ _ c.requires.rising).1 short.2 in
+    let cut = batch_short c.args.show.now n script before s (g.R.Runner.standing c.run_batch.new.runner) f ahead later (g.J.Records.seen c.args.journal.now) (g.J.Records.seen c.run_batch.new.journal) images short.0 printed items c.args.batch.now.number slots rules c.args.failmode rest
+    g.R.Runner.fits (g.J.Records.seen c.args.journal.now).rounds c.in_err-end.field-0.0 (g.O.Sink.holds c.args.out.now) mode orderly h c.requires.steady c.requires.orderly admission_is (rising_both _ _ c.requires.rising).1 short.2 in
     (short.0, cut.0, cut.1, short.1, cut.2)))
 
 pub returns-clause-ran : goal.returns-clause-ran
@@ -103,17 +103,17 @@ returns-clause-ran g c =
     let admission_is : IsAdmission (has_trees f.suspended) (is_name_in f.awaited) (is_some_name f.bound) (trees_of (requests_of items)) slots rules =
     subst (λ (b : Bool). IsAdmission b (is_name_in f.awaited) (is_some_name f.bound) (trees_of (requests_of items)) slots rules) (sym (trees_items g.R.Runner.pending c.args.fold.now.suspended)) c.in_ok-admission.ensures.ok in
     let w = c.in_ok-end.ensures.ran in
-    let old : Journal = c.args.journal.now in
-    let new : Journal = c.run_batch.new.journal in
+    let old : Journal = (g.J.Records.seen c.args.journal.now) in
+    let new : Journal = (g.J.Records.seen c.run_batch.new.journal) in
     let lines : List ReportLine = c.in_ok-end.end.lines in
-    let places : List Choice = drop c.len-places.result new.places in
-    let done : List Completion = drop c.len-completions.result new.completions in
+    let places : List Choice = drop c.entries-places.result new.places in
+    let done : List Completion = drop (length c.completions.result.now) new.completions in
     let ends : List Completion = reverse (answered_in (error_in slots rules) (old.rounds + 1) (requests_of items)) ++ w.0.completions in
-    let text : List ℕ = round_text c.args.show.now (record { round = new.rounds; batch = Some number; point = f.point }) lines places done in
+    let text : List ℕ = round_text c.args.show.now (record { round = c.rounds.result; batch = Some number; point = f.point }) lines places done in
     let text_is : text ≡ round_text c.args.show.now (record { round = old.rounds + 1; batch = Some number; point = f.point }) lines w.0.entries ends =
-    ap (λ (k : ℕ). round_text c.args.show.now (record { round = k; batch = Some number; point = f.point }) lines places done) w.1.journal.rounds
-    ∙ (ap (λ (cs : List Choice). round_text c.args.show.now (record { round = old.rounds + 1; batch = Some number; point = f.point }) lines cs done) (drop_own c.len-places.result old.places new.places w.0.entries c.len-places.ensures w.1.journal.places)
-    ∙ ap (λ (cs : List Completion). round_text c.args.show.now (record { round = old.rounds + 1; batch = Some number; point = f.point }) lines w.0.entries cs) (drop_own c.len-completions.result old.completions new.completions ends c.len-completions.ensures w.1.journal.completions)) in
+    ap (λ (k : ℕ). round_text c.args.show.now (record { round = k; batch = Some number; point = f.point }) lines places done) (c.rounds.ensures ∙ w.1.journal.rounds)
+    ∙ (ap (λ (cs : List Choice). round_text c.args.show.now (record { round = old.rounds + 1; batch = Some number; point = f.point }) lines cs done) (drop_own c.entries-places.result old.places new.places w.0.entries c.entries-places.ensures w.1.journal.places)
+    ∙ ap (λ (cs : List Completion). round_text c.args.show.now (record { round = old.rounds + 1; batch = Some number; point = f.point }) lines w.0.entries cs) (drop_own (length c.completions.result.now) old.completions new.completions ends (ap length c.completions.ensures) w.1.journal.completions)) in
     let slice_is : map (λ (r : Bor Request). r.now) c.as_slice.result.now ≡ requests_of items = ap (map (λ (r : Bor Request). r.now)) c.as_slice.ensures.value ∙ c.in_ok-requests.ensures.ok in
     when_ok c.end_round.result _ _ _ _ _ _ _ c.end_round.ensures.suspended c.end_round.ensures.unfinished c.end_round.ensures.tally c.end_round.ensures.panicked c.end_round.ensures.ok c.end_round.ensures.sums
     (λ suspended_is unfinished_is tally_is panicked_is wrote sums n script before images ahead later printed rest mode orderly h tells.
@@ -140,17 +140,17 @@ returns-clause-cut g c =
     let admission_is : IsAdmission (has_trees f.suspended) (is_name_in f.awaited) (is_some_name f.bound) (trees_of (requests_of items)) slots rules =
     subst (λ (b : Bool). IsAdmission b (is_name_in f.awaited) (is_some_name f.bound) (trees_of (requests_of items)) slots rules) (sym (trees_items g.R.Runner.pending c.args.fold.now.suspended)) c.in_ok-admission.ensures.ok in
     let w = c.in_ok-end.ensures.ran in
-    let old : Journal = c.args.journal.now in
-    let new : Journal = c.run_batch.new.journal in
+    let old : Journal = (g.J.Records.seen c.args.journal.now) in
+    let new : Journal = (g.J.Records.seen c.run_batch.new.journal) in
     let lines : List ReportLine = c.in_ok-end.end.lines in
-    let places : List Choice = drop c.len-places.result new.places in
-    let done : List Completion = drop c.len-completions.result new.completions in
+    let places : List Choice = drop c.entries-places.result new.places in
+    let done : List Completion = drop (length c.completions.result.now) new.completions in
     let ends : List Completion = reverse (answered_in (error_in slots rules) (old.rounds + 1) (requests_of items)) ++ w.0.completions in
-    let text : List ℕ = round_text c.args.show.now (record { round = new.rounds; batch = Some number; point = f.point }) lines places done in
+    let text : List ℕ = round_text c.args.show.now (record { round = c.rounds.result; batch = Some number; point = f.point }) lines places done in
     let text_is : text ≡ round_text c.args.show.now (record { round = old.rounds + 1; batch = Some number; point = f.point }) lines w.0.entries ends =
-    ap (λ (k : ℕ). round_text c.args.show.now (record { round = k; batch = Some number; point = f.point }) lines places done) w.1.journal.rounds
-    ∙ (ap (λ (cs : List Choice). round_text c.args.show.now (record { round = old.rounds + 1; batch = Some number; point = f.point }) lines cs done) (drop_own c.len-places.result old.places new.places w.0.entries c.len-places.ensures w.1.journal.places)
-    ∙ ap (λ (cs : List Completion). round_text c.args.show.now (record { round = old.rounds + 1; batch = Some number; point = f.point }) lines w.0.entries cs) (drop_own c.len-completions.result old.completions new.completions ends c.len-completions.ensures w.1.journal.completions)) in
+    ap (λ (k : ℕ). round_text c.args.show.now (record { round = k; batch = Some number; point = f.point }) lines places done) (c.rounds.ensures ∙ w.1.journal.rounds)
+    ∙ (ap (λ (cs : List Choice). round_text c.args.show.now (record { round = old.rounds + 1; batch = Some number; point = f.point }) lines cs done) (drop_own c.entries-places.result old.places new.places w.0.entries c.entries-places.ensures w.1.journal.places)
+    ∙ ap (λ (cs : List Completion). round_text c.args.show.now (record { round = old.rounds + 1; batch = Some number; point = f.point }) lines w.0.entries cs) (drop_own (length c.completions.result.now) old.completions new.completions ends (ap length c.completions.ensures) w.1.journal.completions)) in
     by_fault c.end_round.result _
     (λ is. absurd (c.end_round.ensures.device is))
     (λ is n script before images ahead later printed rest mode orderly h tells.
@@ -201,7 +201,7 @@ returns-clause-steady g c =
     let slice_is : map (λ (r : Bor Request). r.now) c.as_slice.result.now ≡ requests_of items = ap (map (λ (r : Bor Request). r.now)) c.as_slice.ensures.value ∙ c.in_ok-requests.ensures.ok in
     when_ok c.end_round.result _ _ _ _ _ _ _ c.end_round.ensures.suspended c.end_round.ensures.unfinished c.end_round.ensures.tally c.end_round.ensures.awaited c.end_round.ensures.ok c.end_round.ensures.sums
     (λ suspended_is unfinished_is tally_is awaited_is wrote sums.
-    batch_steady g.R.Runner.fits s (g.R.Runner.standing c.run_batch.new.runner) c.args.journal.now c.run_batch.new.journal f (fold_seen g.R.Runner.pending c.end_round.new.fold) items c.args.batch.now.number slots rules w.0 lines
+    batch_steady g.R.Runner.fits s (g.R.Runner.standing c.run_batch.new.runner) (g.J.Records.seen c.args.journal.now) (g.J.Records.seen c.run_batch.new.journal) f (fold_seen g.R.Runner.pending c.end_round.new.fold) items c.args.batch.now.number slots rules w.0 lines
     (map g.R.Runner.pending c.in_ok-end.end.left) c.run_batch.new.bound c.requires.steady c.requires.rising c.requires.orderly admission_is w.1 w.2 w.3 c.in_ok-end.ensures.fits c.end_round.ensures.bound
     (ap (map g.R.Runner.pending) suspended_is ∙ map_two g.R.Runner.pending c.args.fold.now.suspended c.in_ok-end.end.left)
     (unfinished_is ∙ ap (λ (rs : List Request). f.unfinished ++ waiting_of rs lines) slice_is)

@@ -37,10 +37,10 @@ returns-in_err-end-clause-cut g c =
     (λ n script before images ahead later printed rest mode orderly h tells.
     (let short = c.in_err-end.ensures.cut images tells in
     let now : Standing = g.R.Runner.standing c.run_suspended.new.runner in
-    let cut_short : IsCutShort s now (stopping_of now (g.R.Runner.stops c.run_suspended.new.runner)) c.in_err-end.field-0.0 (terms_at s c.args.failmode (c.args.journal.now.rounds + 1) f.point) f.suspended [] c.args.journal.now c.run_suspended.new.journal images short.0 =
-    subst (λ (ts : List (List Pending)). IsCutShort s now (stopping_of now (g.R.Runner.stops c.run_suspended.new.runner)) c.in_err-end.field-0.0 (terms_at s c.args.failmode (c.args.journal.now.rounds + 1) f.point) ts [] c.args.journal.now c.run_suspended.new.journal images short.0) trees_are short.2 in
-    let cut = clear_short c.args.show.now n script before s now f ahead later c.args.journal.now c.run_suspended.new.journal images short.0 printed c.args.failmode rest
-    g.R.Runner.fits c.args.journal.now.rounds c.in_err-end.field-0.0 (g.O.Sink.holds c.args.out.now) mode orderly h c.requires.steady cut_short in
+    let cut_short : IsCutShort s now (stopping_of now (g.R.Runner.stops c.run_suspended.new.runner)) c.in_err-end.field-0.0 (terms_at s c.args.failmode ((g.J.Records.seen c.args.journal.now).rounds + 1) f.point) f.suspended [] (g.J.Records.seen c.args.journal.now) (g.J.Records.seen c.run_suspended.new.journal) images short.0 =
+    subst (λ (ts : List (List Pending)). IsCutShort s now (stopping_of now (g.R.Runner.stops c.run_suspended.new.runner)) c.in_err-end.field-0.0 (terms_at s c.args.failmode ((g.J.Records.seen c.args.journal.now).rounds + 1) f.point) ts [] (g.J.Records.seen c.args.journal.now) (g.J.Records.seen c.run_suspended.new.journal) images short.0) trees_are short.2 in
+    let cut = clear_short c.args.show.now n script before s now f ahead later (g.J.Records.seen c.args.journal.now) (g.J.Records.seen c.run_suspended.new.journal) images short.0 printed c.args.failmode rest
+    g.R.Runner.fits (g.J.Records.seen c.args.journal.now).rounds c.in_err-end.field-0.0 (g.O.Sink.holds c.args.out.now) mode orderly h c.requires.steady cut_short in
     (short.0, cut.0, cut.1, short.1, cut.2)))
 
 pub returns-clause-ran : goal.returns-clause-ran
@@ -50,21 +50,21 @@ returns-clause-ran g c =
     let trees_are : map g.R.Runner.pending c.replace-trees.result ≡ f.suspended = ap (map g.R.Runner.pending) c.replace-trees.ensures.value in
     let requests_are : map (λ (r : Bor Request). r.now) c.as_slice.result.now ≡ f.unfinished =
     ap (map (λ (r : Bor Request). r.now)) (c.as_slice.ensures.value ∙ ap (λ v. v.items) c.replace-requests.ensures.value) in
-    let old : Journal = c.args.journal.now in
-    let new : Journal = c.run_suspended.new.journal in
+    let old : Journal = (g.J.Records.seen c.args.journal.now) in
+    let new : Journal = (g.J.Records.seen c.run_suspended.new.journal) in
     let lines : List ReportLine = c.in_ok-end.end.lines in
     let left : List (List Pending) = map g.R.Runner.pending c.in_ok-end.end.left in
     let w : ClearRan s (g.R.Runner.standing c.run_suspended.new.runner) (g.R.Runner.tells c.args.runner.now) (g.R.Runner.tells c.run_suspended.new.runner) c.args.failmode f.point f.bound c.run_suspended.new.bound old new lines left f.suspended f.unfinished =
     clear_moved s (g.R.Runner.standing c.run_suspended.new.runner) (g.R.Runner.tells c.args.runner.now) (g.R.Runner.tells c.run_suspended.new.runner) c.args.failmode f.point f.bound c.run_suspended.new.bound old new lines left
     (map g.R.Runner.pending c.replace-trees.result) f.suspended (map (λ (r : Bor Request). r.now) c.as_slice.result.now) f.unfinished trees_are requests_are c.in_ok-end.ensures.ran in
-    let places : List Choice = drop c.len-places.result new.places in
-    let done : List Completion = drop c.len-completions.result new.completions in
-    let text : List ℕ = round_text c.args.show.now (record { round = new.rounds; batch = None; point = f.point }) lines places done in
+    let places : List Choice = drop c.entries-places.result new.places in
+    let done : List Completion = drop (length c.completions.result.now) new.completions in
+    let text : List ℕ = round_text c.args.show.now (record { round = c.rounds.result; batch = None; point = f.point }) lines places done in
     let text_is : text ≡ round_text c.args.show.now (record { round = old.rounds + 1; batch = None; point = f.point }) lines w.0.entries w.0.completions =
-    ap (λ (k : ℕ). round_text c.args.show.now (record { round = k; batch = None; point = f.point }) lines places done) w.1.journal.rounds
-    ∙ (ap (λ (cs : List Choice). round_text c.args.show.now (record { round = old.rounds + 1; batch = None; point = f.point }) lines cs done) (drop_own c.len-places.result old.places new.places w.0.entries c.len-places.ensures w.1.journal.places)
+    ap (λ (k : ℕ). round_text c.args.show.now (record { round = k; batch = None; point = f.point }) lines places done) (c.rounds.ensures ∙ w.1.journal.rounds)
+    ∙ (ap (λ (cs : List Choice). round_text c.args.show.now (record { round = old.rounds + 1; batch = None; point = f.point }) lines cs done) (drop_own c.entries-places.result old.places new.places w.0.entries c.entries-places.ensures w.1.journal.places)
     ∙ ap (λ (cs : List Completion). round_text c.args.show.now (record { round = old.rounds + 1; batch = None; point = f.point }) lines w.0.entries cs)
-    (drop_own c.len-completions.result old.completions new.completions w.0.completions c.len-completions.ensures (ends_alone old new f.unfinished w.0.completions w.1.journal.completions))) in
+    (drop_own (length c.completions.result.now) old.completions new.completions w.0.completions (ap length c.completions.ensures) (ends_alone old new f.unfinished w.0.completions w.1.journal.completions))) in
     let slice_is : map (λ (r : Bor Request). r.now) c.as_slice-2.result.now ≡ f.unfinished =
     ap (map (λ (r : Bor Request). r.now)) (c.as_slice-2.ensures.value ∙ ap (λ v. v.items) c.replace-requests.ensures.value) in
     let none_suspended : c.replace-trees.new.dest ≡ [] = c.replace-trees.ensures.after ∙ c.new-2.ensures in
@@ -90,21 +90,21 @@ returns-clause-cut g c =
     let trees_are : map g.R.Runner.pending c.replace-trees.result ≡ f.suspended = ap (map g.R.Runner.pending) c.replace-trees.ensures.value in
     let requests_are : map (λ (r : Bor Request). r.now) c.as_slice.result.now ≡ f.unfinished =
     ap (map (λ (r : Bor Request). r.now)) (c.as_slice.ensures.value ∙ ap (λ v. v.items) c.replace-requests.ensures.value) in
-    let old : Journal = c.args.journal.now in
-    let new : Journal = c.run_suspended.new.journal in
+    let old : Journal = (g.J.Records.seen c.args.journal.now) in
+    let new : Journal = (g.J.Records.seen c.run_suspended.new.journal) in
     let lines : List ReportLine = c.in_ok-end.end.lines in
     let left : List (List Pending) = map g.R.Runner.pending c.in_ok-end.end.left in
     let w : ClearRan s (g.R.Runner.standing c.run_suspended.new.runner) (g.R.Runner.tells c.args.runner.now) (g.R.Runner.tells c.run_suspended.new.runner) c.args.failmode f.point f.bound c.run_suspended.new.bound old new lines left f.suspended f.unfinished =
     clear_moved s (g.R.Runner.standing c.run_suspended.new.runner) (g.R.Runner.tells c.args.runner.now) (g.R.Runner.tells c.run_suspended.new.runner) c.args.failmode f.point f.bound c.run_suspended.new.bound old new lines left
     (map g.R.Runner.pending c.replace-trees.result) f.suspended (map (λ (r : Bor Request). r.now) c.as_slice.result.now) f.unfinished trees_are requests_are c.in_ok-end.ensures.ran in
-    let places : List Choice = drop c.len-places.result new.places in
-    let done : List Completion = drop c.len-completions.result new.completions in
-    let text : List ℕ = round_text c.args.show.now (record { round = new.rounds; batch = None; point = f.point }) lines places done in
+    let places : List Choice = drop c.entries-places.result new.places in
+    let done : List Completion = drop (length c.completions.result.now) new.completions in
+    let text : List ℕ = round_text c.args.show.now (record { round = c.rounds.result; batch = None; point = f.point }) lines places done in
     let text_is : text ≡ round_text c.args.show.now (record { round = old.rounds + 1; batch = None; point = f.point }) lines w.0.entries w.0.completions =
-    ap (λ (k : ℕ). round_text c.args.show.now (record { round = k; batch = None; point = f.point }) lines places done) w.1.journal.rounds
-    ∙ (ap (λ (cs : List Choice). round_text c.args.show.now (record { round = old.rounds + 1; batch = None; point = f.point }) lines cs done) (drop_own c.len-places.result old.places new.places w.0.entries c.len-places.ensures w.1.journal.places)
+    ap (λ (k : ℕ). round_text c.args.show.now (record { round = k; batch = None; point = f.point }) lines places done) (c.rounds.ensures ∙ w.1.journal.rounds)
+    ∙ (ap (λ (cs : List Choice). round_text c.args.show.now (record { round = old.rounds + 1; batch = None; point = f.point }) lines cs done) (drop_own c.entries-places.result old.places new.places w.0.entries c.entries-places.ensures w.1.journal.places)
     ∙ ap (λ (cs : List Completion). round_text c.args.show.now (record { round = old.rounds + 1; batch = None; point = f.point }) lines w.0.entries cs)
-    (drop_own c.len-completions.result old.completions new.completions w.0.completions c.len-completions.ensures (ends_alone old new f.unfinished w.0.completions w.1.journal.completions))) in
+    (drop_own (length c.completions.result.now) old.completions new.completions w.0.completions (ap length c.completions.ensures) (ends_alone old new f.unfinished w.0.completions w.1.journal.completions))) in
     by_fault c.end_round.result _
     (λ is. absurd (c.end_round.ensures.device is))
     (λ is n script before images ahead later printed rest mode orderly h tells.
@@ -134,8 +134,8 @@ returns-clause-few g c =
     let trees_are : map g.R.Runner.pending c.replace-trees.result ≡ f.suspended = ap (map g.R.Runner.pending) c.replace-trees.ensures.value in
     let requests_are : map (λ (r : Bor Request). r.now) c.as_slice.result.now ≡ f.unfinished =
     ap (map (λ (r : Bor Request). r.now)) (c.as_slice.ensures.value ∙ ap (λ v. v.items) c.replace-requests.ensures.value) in
-    let old : Journal = c.args.journal.now in
-    let new : Journal = c.run_suspended.new.journal in
+    let old : Journal = (g.J.Records.seen c.args.journal.now) in
+    let new : Journal = (g.J.Records.seen c.run_suspended.new.journal) in
     let lines : List ReportLine = c.in_ok-end.end.lines in
     let left : List (List Pending) = map g.R.Runner.pending c.in_ok-end.end.left in
     let w : ClearRan s (g.R.Runner.standing c.run_suspended.new.runner) (g.R.Runner.tells c.args.runner.now) (g.R.Runner.tells c.run_suspended.new.runner) c.args.failmode f.point f.bound c.run_suspended.new.bound old new lines left f.suspended f.unfinished =
@@ -160,8 +160,8 @@ returns-clause-steady g c =
     let trees_are : map g.R.Runner.pending c.replace-trees.result ≡ f.suspended = ap (map g.R.Runner.pending) c.replace-trees.ensures.value in
     let requests_are : map (λ (r : Bor Request). r.now) c.as_slice.result.now ≡ f.unfinished =
     ap (map (λ (r : Bor Request). r.now)) (c.as_slice.ensures.value ∙ ap (λ v. v.items) c.replace-requests.ensures.value) in
-    let old : Journal = c.args.journal.now in
-    let new : Journal = c.run_suspended.new.journal in
+    let old : Journal = (g.J.Records.seen c.args.journal.now) in
+    let new : Journal = (g.J.Records.seen c.run_suspended.new.journal) in
     let lines : List ReportLine = c.in_ok-end.end.lines in
     let left : List (List Pending) = map g.R.Runner.pending c.in_ok-end.end.left in
     let w : ClearRan s (g.R.Runner.standing c.run_suspended.new.runner) (g.R.Runner.tells c.args.runner.now) (g.R.Runner.tells c.run_suspended.new.runner) c.args.failmode f.point f.bound c.run_suspended.new.bound old new lines left f.suspended f.unfinished =

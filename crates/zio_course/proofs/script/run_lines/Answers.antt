@@ -25,11 +25,11 @@ loop-fold-init g c =
       [],
       record {
         whole = refl;
-        going = subst (λ (bs : List DefinedBatch). IsGoing g.R.Runner.fits s c.args.journal.now.rounds f bs (batches_from [] c.args.items.now) (length c.args.items.now)) none c.requires.going;
+        going = subst (λ (bs : List DefinedBatch). IsGoing g.R.Runner.fits s (g.J.Records.seen c.args.journal.now).rounds f bs (batches_from [] c.args.items.now) (length c.args.items.now)) none c.requires.going;
         waits = λ runs. sym none;
         ran = subst (λ (bs : List DefinedBatch). LinesRan c.args.show.now c.args.failmode s s f f c.args.items.now c.args.items.now (record { held = bs; batch = []; batches = 0 }) (requests_held bs ++ batches_from [] c.args.items.now)
-            c.args.journal.now c.args.journal.now (g.R.Runner.tells c.args.runner.now) (g.R.Runner.tells c.args.runner.now) (g.O.Sink.holds c.args.out.now) (g.O.Sink.holds c.args.out.now)) none
-            (lines_none c.args.show.now c.args.failmode s f c.args.items.now c.args.journal.now (g.R.Runner.tells c.args.runner.now) (g.O.Sink.holds c.args.out.now));
+            (g.J.Records.seen c.args.journal.now) (g.J.Records.seen c.args.journal.now) (g.R.Runner.tells c.args.runner.now) (g.R.Runner.tells c.args.runner.now) (g.O.Sink.holds c.args.out.now) (g.O.Sink.holds c.args.out.now)) none
+            (lines_none c.args.show.now c.args.failmode s f c.args.items.now (g.J.Records.seen c.args.journal.now) (g.R.Runner.tells c.args.runner.now) (g.O.Sink.holds c.args.out.now));
         point = c.requires.point;
         batches_fit = let a = c.requires.point in omega arith;
         tops = refl;
@@ -55,8 +55,8 @@ go_line-requires-clause-going g c =
     let f : SeenFold = fold_seen g.R.Runner.pending c.loop-fold.fold in
     let held : List DefinedBatch = batches_seen c.loop-fold.held.items in
     let n : ℕ = c.loop-fold.batches in
-    let old : Journal = c.args.journal.now in
-    let j : Journal = c.loop-fold.journal in
+    let old : Journal = (g.J.Records.seen c.args.journal.now) in
+    let j : Journal = (g.J.Records.seen c.loop-fold.journal) in
     let one : suc (length more) ≡ length more + 1 = omega arith in
     let rest_is : c.loop-fold.rest.now ≡ Go ∷ more = c.in-Some.ensures.some ∙ ap (λ (x : Item). x ∷ more) c.in-Go.is in
     let going_all : IsGoing g.R.Runner.fits s j.rounds f held (batches_from (requests_of front) (Go ∷ more)) (length more + 1) =
@@ -87,7 +87,7 @@ clear_line-requires-clause-going g c =
     let s : Standing = g.R.Runner.standing c.loop-fold.runner in
     let f : SeenFold = fold_seen g.R.Runner.pending c.loop-fold.fold in
     let held : List DefinedBatch = batches_seen c.loop-fold.held.items in
-    let j : Journal = c.loop-fold.journal in
+    let j : Journal = (g.J.Records.seen c.loop-fold.journal) in
     let one : suc (length more) ≡ length more + 1 = omega arith in
     let rest_is : c.loop-fold.rest.now ≡ Clear ∷ more = c.in-Some.ensures.some ∙ ap (λ (x : Item). x ∷ more) c.in-Clear.is in
     let going_all : IsGoing g.R.Runner.fits s j.rounds f held (batches_from (requests_of front) (Clear ∷ more)) (length more + 1) =
@@ -108,8 +108,8 @@ returns-in_err-go_line-in-Go-clause-cut g c =
     let f : SeenFold = fold_seen g.R.Runner.pending c.loop-fold.fold in
     let held : List DefinedBatch = batches_seen c.loop-fold.held.items in
     let n : ℕ = c.loop-fold.batches in
-    let old : Journal = c.args.journal.now in
-    let j : Journal = c.loop-fold.journal in
+    let old : Journal = (g.J.Records.seen c.args.journal.now) in
+    let j : Journal = (g.J.Records.seen c.loop-fold.journal) in
     let one : suc (length more) ≡ length more + 1 = omega arith in
     let rest_is : c.loop-fold.rest.now ≡ Go ∷ more = c.in-Some.ensures.some ∙ ap (λ (x : Item). x ∷ more) c.in-Go.is in
     let going_all : IsGoing g.R.Runner.fits s j.rounds f held (batches_from (requests_of front) (Go ∷ more)) (length more + 1) =
@@ -131,7 +131,7 @@ returns-in_err-go_line-in-Go-clause-cut g c =
     (g.R.Runner.tells c.args.runner.now) (g.R.Runner.tells c.loop-fold.runner) (g.O.Sink.holds c.args.out.now) (g.O.Sink.holds c.loop-fold.out)) own_is ran_all) in
     let orderly = all_behind (IsOrderlyBatch (rows_tell_apart s.rows)) (requests_held held) own (batches_from [] more) going_own.orderly in
     by_same c.from_residual.result c.in_err-go_line-in-Go.field-0.0 _ c.from_residual.ensures.1
-    (lines_cut show mode s0 s f0 f c.args.items.now Go more (record { held = held; batch = own; batches = n }) (requests_held held ++ own ∷ []) (batches_from [] more) old j c.go_line.new.journal
+    (lines_cut show mode s0 s f0 f c.args.items.now Go more (record { held = held; batch = own; batches = n }) (requests_held held ++ own ∷ []) (batches_from [] more) old j (g.J.Records.seen c.go_line.new.journal)
     (g.R.Runner.tells c.args.runner.now) (g.R.Runner.tells c.loop-fold.runner) (g.R.Runner.tells c.go_line.new.runner) (g.O.Sink.holds c.args.out.now) (g.O.Sink.holds c.loop-fold.out) (g.O.Sink.holds c.go_line.new.out)
     c.in_err-go_line-in-Go.field-0.0 c.loop-fold-test.true i.tops orderly ran_own (c.in_err-go_line-in-Go.ensures.cut n refl))
 
@@ -148,8 +148,8 @@ returns-in_err-clear_line-in-Clear-clause-cut g c =
     let f : SeenFold = fold_seen g.R.Runner.pending c.loop-fold.fold in
     let held : List DefinedBatch = batches_seen c.loop-fold.held.items in
     let n : ℕ = c.loop-fold.batches in
-    let old : Journal = c.args.journal.now in
-    let j : Journal = c.loop-fold.journal in
+    let old : Journal = (g.J.Records.seen c.args.journal.now) in
+    let j : Journal = (g.J.Records.seen c.loop-fold.journal) in
     let one : suc (length more) ≡ length more + 1 = omega arith in
     let rest_is : c.loop-fold.rest.now ≡ Clear ∷ more = c.in-Some.ensures.some ∙ ap (λ (x : Item). x ∷ more) c.in-Clear.is in
     let going_all : IsGoing g.R.Runner.fits s j.rounds f held (batches_from (requests_of front) (Clear ∷ more)) (length more + 1) =
@@ -161,7 +161,7 @@ returns-in_err-clear_line-in-Clear-clause-cut g c =
     (g.R.Runner.tells c.args.runner.now) (g.R.Runner.tells c.loop-fold.runner) (g.O.Sink.holds c.args.out.now) (g.O.Sink.holds c.loop-fold.out)) rest_is i.ran in
     let orderly = all_after (IsOrderlyBatch (rows_tell_apart s.rows)) (requests_held held) (batches_from (requests_of front) more) going_all.orderly in
     by_same c.from_residual-in_err-clear_line-in-Clear.result c.in_err-clear_line-in-Clear.field-0.0 _ c.from_residual-in_err-clear_line-in-Clear.ensures.1
-    (lines_cut show mode s0 s f0 f c.args.items.now Clear more (record { held = held; batch = requests_of front; batches = n }) (requests_held held) (batches_from (requests_of front) more) old j c.clear_line.new.journal
+    (lines_cut show mode s0 s f0 f c.args.items.now Clear more (record { held = held; batch = requests_of front; batches = n }) (requests_held held) (batches_from (requests_of front) more) old j (g.J.Records.seen c.clear_line.new.journal)
     (g.R.Runner.tells c.args.runner.now) (g.R.Runner.tells c.loop-fold.runner) (g.R.Runner.tells c.clear_line.new.runner) (g.O.Sink.holds c.args.out.now) (g.O.Sink.holds c.loop-fold.out) (g.O.Sink.holds c.clear_line.new.out)
     c.in_err-clear_line-in-Clear.field-0.0 c.loop-fold-test.true i.tops orderly ran_all (c.in_err-clear_line-in-Clear.ensures.cut (requests_of front) n))
 
@@ -178,8 +178,8 @@ loop-fold-preserved-in_ok-go_line-in-Go g c =
     let f : SeenFold = fold_seen g.R.Runner.pending c.loop-fold.fold in
     let held : List DefinedBatch = batches_seen c.loop-fold.held.items in
     let n : ℕ = c.loop-fold.batches in
-    let old : Journal = c.args.journal.now in
-    let j : Journal = c.loop-fold.journal in
+    let old : Journal = (g.J.Records.seen c.args.journal.now) in
+    let j : Journal = (g.J.Records.seen c.loop-fold.journal) in
     let one : suc (length more) ≡ length more + 1 = omega arith in
     let rest_is : c.loop-fold.rest.now ≡ Go ∷ more = c.in-Some.ensures.some ∙ ap (λ (x : Item). x ∷ more) c.in-Go.is in
     let going_all : IsGoing g.R.Runner.fits s j.rounds f held (batches_from (requests_of front) (Go ∷ more)) (length more + 1) =
@@ -207,7 +207,7 @@ loop-fold-preserved-in_ok-go_line-in-Go g c =
         going = did.going (batches_from [] more) (length more) going_own;
         waits = did.waits;
         ran = lines_line show mode s0 s (g.R.Runner.standing c.go_line.new.runner) f0 f (fold_seen g.R.Runner.pending c.go_line.new.fold) c.args.items.now Go more (record { held = held; batch = own; batches = n })
-            (record { held = batches_seen c.go_line.new.held.items; batch = []; batches = n + 1 }) (requests_held held ++ own ∷ []) (requests_held (batches_seen c.go_line.new.held.items)) (batches_from [] more) old j c.go_line.new.journal
+            (record { held = batches_seen c.go_line.new.held.items; batch = []; batches = n + 1 }) (requests_held held ++ own ∷ []) (requests_held (batches_seen c.go_line.new.held.items)) (batches_from [] more) old j (g.J.Records.seen c.go_line.new.journal)
             (g.R.Runner.tells c.args.runner.now) (g.R.Runner.tells c.loop-fold.runner) (g.R.Runner.tells c.go_line.new.runner) (g.O.Sink.holds c.args.out.now) (g.O.Sink.holds c.loop-fold.out) (g.O.Sink.holds c.go_line.new.out)
             c.loop-fold-test.true orderly ran_own (did.ran n refl);
         point = let a = i.point in let b : length c.loop-fold.rest.now ≡ suc (length more) = ap length rest_is in let d = did.point in omega arith;
@@ -235,8 +235,8 @@ loop-fold-preserved g c =
     let f : SeenFold = fold_seen g.R.Runner.pending c.loop-fold.fold in
     let held : List DefinedBatch = batches_seen c.loop-fold.held.items in
     let n : ℕ = c.loop-fold.batches in
-    let old : Journal = c.args.journal.now in
-    let j : Journal = c.loop-fold.journal in
+    let old : Journal = (g.J.Records.seen c.args.journal.now) in
+    let j : Journal = (g.J.Records.seen c.loop-fold.journal) in
     let one : suc (length more) ≡ length more + 1 = omega arith in
     let rest_is : c.loop-fold.rest.now ≡ Clear ∷ more = c.in-Some.ensures.some ∙ ap (λ (x : Item). x ∷ more) c.in-Clear.is in
     let going_all : IsGoing g.R.Runner.fits s j.rounds f held (batches_from (requests_of front) (Clear ∷ more)) (length more + 1) =
@@ -252,13 +252,13 @@ loop-fold-preserved g c =
       front ++ Clear ∷ [],
       record {
         whole = i.whole ∙ (ap (λ (xs : List Item). front ++ xs) rest_is ∙ sym (append_assoc front (Clear ∷ []) more));
-        going = subst (λ (b : List Request). IsGoing g.R.Runner.fits (g.R.Runner.standing c.clear_line.new.runner) c.clear_line.new.journal.rounds (fold_seen g.R.Runner.pending c.clear_line.new.fold) (batches_seen c.clear_line.new.held.items) (batches_from b more) (length more)) same_requests
+        going = subst (λ (b : List Request). IsGoing g.R.Runner.fits (g.R.Runner.standing c.clear_line.new.runner) (g.J.Records.seen c.clear_line.new.journal).rounds (fold_seen g.R.Runner.pending c.clear_line.new.fold) (batches_seen c.clear_line.new.held.items) (batches_from b more) (length more)) same_requests
             (did.going (batches_from (requests_of front) more) (length more) going_all);
         waits = did.waits;
         ran = subst (λ (b : List Request). LinesRan show mode s0 (g.R.Runner.standing c.clear_line.new.runner) f0 (fold_seen g.R.Runner.pending c.clear_line.new.fold) c.args.items.now more (record { held = batches_seen c.clear_line.new.held.items; batch = b; batches = n })
-            (requests_held (batches_seen c.clear_line.new.held.items) ++ batches_from b more) old c.clear_line.new.journal (g.R.Runner.tells c.args.runner.now) (g.R.Runner.tells c.clear_line.new.runner) (g.O.Sink.holds c.args.out.now) (g.O.Sink.holds c.clear_line.new.out)) same_requests
+            (requests_held (batches_seen c.clear_line.new.held.items) ++ batches_from b more) old (g.J.Records.seen c.clear_line.new.journal) (g.R.Runner.tells c.args.runner.now) (g.R.Runner.tells c.clear_line.new.runner) (g.O.Sink.holds c.args.out.now) (g.O.Sink.holds c.clear_line.new.out)) same_requests
             (lines_line show mode s0 s (g.R.Runner.standing c.clear_line.new.runner) f0 f (fold_seen g.R.Runner.pending c.clear_line.new.fold) c.args.items.now Clear more (record { held = held; batch = requests_of front; batches = n })
-            (record { held = batches_seen c.clear_line.new.held.items; batch = requests_of front; batches = n }) (requests_held held) (requests_held (batches_seen c.clear_line.new.held.items)) (batches_from (requests_of front) more) old j c.clear_line.new.journal
+            (record { held = batches_seen c.clear_line.new.held.items; batch = requests_of front; batches = n }) (requests_held held) (requests_held (batches_seen c.clear_line.new.held.items)) (batches_from (requests_of front) more) old j (g.J.Records.seen c.clear_line.new.journal)
             (g.R.Runner.tells c.args.runner.now) (g.R.Runner.tells c.loop-fold.runner) (g.R.Runner.tells c.clear_line.new.runner) (g.O.Sink.holds c.args.out.now) (g.O.Sink.holds c.loop-fold.out) (g.O.Sink.holds c.clear_line.new.out)
             c.loop-fold-test.true orderly ran_all (did.ran (requests_of front) n));
         point = let a = i.point in let b : length c.loop-fold.rest.now ≡ suc (length more) = ap length rest_is in let d = did.point in omega arith;
@@ -286,8 +286,8 @@ loop-fold-preserved-in-Request g c =
     let f : SeenFold = fold_seen g.R.Runner.pending c.loop-fold.fold in
     let held : List DefinedBatch = batches_seen c.loop-fold.held.items in
     let n : ℕ = c.loop-fold.batches in
-    let old : Journal = c.args.journal.now in
-    let j : Journal = c.loop-fold.journal in
+    let old : Journal = (g.J.Records.seen c.args.journal.now) in
+    let j : Journal = (g.J.Records.seen c.loop-fold.journal) in
     let one : suc (length more) ≡ length more + 1 = omega arith in
     let r : Request = c.in-Request.field-0 in
     let rest_is : c.loop-fold.rest.now ≡ RequestLine r ∷ more = c.in-Some.ensures.some ∙ ap (λ (x : Item). x ∷ more) c.in-Request.is in
@@ -325,14 +325,14 @@ pub returns-after-loop-fold-clause-ran : goal.returns-after-loop-fold-clause-ran
 returns-after-loop-fold-clause-ran g c =
     lines_over c.args.show.now c.args.failmode (g.R.Runner.standing c.args.runner.now) (g.R.Runner.standing c.loop-fold.runner) (fold_seen g.R.Runner.pending c.args.fold.now) (fold_seen g.R.Runner.pending c.loop-fold.fold) c.args.items.now c.loop-fold.rest.now
     (record { held = batches_seen c.loop-fold.held.items; batch = requests_of c.loop-fold.invariant.0; batches = c.loop-fold.batches })
-    (requests_held (batches_seen c.loop-fold.held.items) ++ batches_from (requests_of c.loop-fold.invariant.0) c.loop-fold.rest.now) c.args.journal.now c.loop-fold.journal (g.R.Runner.tells c.args.runner.now) (g.R.Runner.tells c.loop-fold.runner)
+    (requests_held (batches_seen c.loop-fold.held.items) ++ batches_from (requests_of c.loop-fold.invariant.0) c.loop-fold.rest.now) (g.J.Records.seen c.args.journal.now) (g.J.Records.seen c.loop-fold.journal) (g.R.Runner.tells c.args.runner.now) (g.R.Runner.tells c.loop-fold.runner)
     (g.O.Sink.holds c.args.out.now) (g.O.Sink.holds c.loop-fold.out) (inl c.loop-fold-test.false) c.loop-fold.invariant.1.ran
 
 pub returns-in_default-clause-ran : goal.returns-in_default-clause-ran
 returns-in_default-clause-ran g c =
     lines_over c.args.show.now c.args.failmode (g.R.Runner.standing c.args.runner.now) (g.R.Runner.standing c.loop-fold.runner) (fold_seen g.R.Runner.pending c.args.fold.now) (fold_seen g.R.Runner.pending c.loop-fold.fold) c.args.items.now c.loop-fold.rest.now
     (record { held = batches_seen c.loop-fold.held.items; batch = requests_of c.loop-fold.invariant.0; batches = c.loop-fold.batches })
-    (requests_held (batches_seen c.loop-fold.held.items) ++ batches_from (requests_of c.loop-fold.invariant.0) c.loop-fold.rest.now) c.args.journal.now c.loop-fold.journal (g.R.Runner.tells c.args.runner.now) (g.R.Runner.tells c.loop-fold.runner)
+    (requests_held (batches_seen c.loop-fold.held.items) ++ batches_from (requests_of c.loop-fold.invariant.0) c.loop-fold.rest.now) (g.J.Records.seen c.args.journal.now) (g.J.Records.seen c.loop-fold.journal) (g.R.Runner.tells c.args.runner.now) (g.R.Runner.tells c.loop-fold.runner)
     (g.O.Sink.holds c.args.out.now) (g.O.Sink.holds c.loop-fold.out) (inr (c.in_default.ensures.none refl)) c.loop-fold.invariant.1.ran
 
 pub returns-after-loop-fold-clause-steady : goal.returns-after-loop-fold-clause-steady

@@ -10,11 +10,11 @@ use Rattle.zio_course.proofs.script.run_lines.Given as goal
 abbrev pub invariant-loop-fold : goal.invariant-loop-fold
 invariant-loop-fold g l = (front : List Item) × record {
   whole : l.from ≡ front ++ l.rest;
-  going : IsGoing g.R.Runner.fits (g.R.Runner.standing l.runner) l.journal.rounds (fold_seen g.R.Runner.pending l.fold) (batches_seen l.held.items) (batches_from (requests_of front) l.rest) (length l.rest);
+  going : IsGoing g.R.Runner.fits (g.R.Runner.standing l.runner) (g.J.Records.seen l.journal).rounds (fold_seen g.R.Runner.pending l.fold) (batches_seen l.held.items) (batches_from (requests_of front) l.rest) (length l.rest);
   waits : HeldWaits l.failmode (map g.R.Runner.pending l.fold.suspended) (batches_seen l.held.items);
   ran : LinesRan l.show l.failmode (g.R.Runner.standing l.fn.runner) (g.R.Runner.standing l.runner) (fold_seen g.R.Runner.pending l.fn.fold) (fold_seen g.R.Runner.pending l.fold) l.items l.rest
       (record { held = batches_seen l.held.items; batch = requests_of front; batches = l.batches }) (requests_held (batches_seen l.held.items) ++ batches_from (requests_of front) l.rest)
-      l.fn.journal l.journal (g.R.Runner.tells l.fn.runner) (g.R.Runner.tells l.runner) (g.O.Sink.holds l.fn.out) (g.O.Sink.holds l.out);
+      (g.J.Records.seen l.fn.journal) (g.J.Records.seen l.journal) (g.R.Runner.tells l.fn.runner) (g.R.Runner.tells l.runner) (g.O.Sink.holds l.fn.out) (g.O.Sink.holds l.out);
   point : l.fold.point + length l.rest < 2 ^ 32;
   batches_fit : l.batches + length l.rest < 2 ^ 32;
   tops : (g.R.Runner.standing l.runner).tops ≡ (g.R.Runner.standing l.fn.runner).tops;
@@ -22,7 +22,7 @@ invariant-loop-fold g l = (front : List Item) × record {
   faults : (g.R.Runner.standing l.runner).faults ≡ (g.R.Runner.standing l.fn.runner).faults;
   quiet : g.O.Sink.faults l.out ≡ g.O.Sink.faults l.fn.out;
   can : g.R.Runner.Can l.runner;
-  chosen : AreOfRounds g.R.Runner.chosen l.journal.rounds l.journal.places;
+  chosen : AreOfRounds g.R.Runner.chosen (g.J.Records.seen l.journal).rounds (g.J.Records.seen l.journal).places;
   same : g.R.Runner.same l.fn.runner l.runner;
 }
 

@@ -9,6 +9,7 @@ use Rattle.zio_course.specs.declared.runner.RequestEnd.{RequestEnd}
 use Rattle.zio_course.specs.declared.runner.Stop.TheVariants.{Memory as NoMemory}
 use Rattle.zio_course.specs.Answered.{answered_in}
 use Rattle.zio_course.specs.Forests.{names_of}
+use Rattle.zio_course.specs.Runners.{IsCutRound, stopping_of, terms_at}
 use Rattle.zio_course.specs.Told.{AreFinishedOf, ended_told, line_told, no_error}
 use Rattle.zio_course.proofs.BatchLemmas.{Whole, stopped_by, whole_moved}
 use Rattle.zio_course.proofs.FitLemmas.{bound_fits}
@@ -26,16 +27,23 @@ tell_suspended-requires-clause-finished g c =
 pub returns-in_err-finished-clause-cut : goal.returns-in_err-finished-clause-cut
 returns-in_err-finished-clause-cut g c =
     stopped_by c.from_residual.result c.in_err-finished.field-0.0 _ c.from_residual.ensures.1
-    (λ before told. (let x = c.in_err-finished.ensures.cut before told in (x.0, x.1, inr (inl (c.in_err-finished.ensures.kept, x.2, x.3)))))
+    (λ before told.
+    (let x = c.in_err-finished.ensures.cut before told in
+    let cut = subst (λ (n : ℕ). IsCutRound c.in_err-finished.field-0.0 (stopping_of (g.R.Runner.standing c.whole_round.new.runner) (g.R.Runner.stops c.whole_round.new.runner))
+    (terms_at (g.R.Runner.standing c.args.runner.now) c.args.failmode (n + 1) c.args.point) (map g.R.Runner.pending c.args.trees) before x.0) c.rounds-round.ensures x.2 in
+    (x.0, x.1, inr (inl (c.in_err-finished.ensures.kept, cut, x.3)))))
 
 pub returns-in_err-lines-clause-cut : goal.returns-in_err-lines-clause-cut
 returns-in_err-lines-clause-cut g c =
     let trees : List (List Pending) = map g.R.Runner.pending c.args.trees in
     let none : List Completion = [] in
-    let w : Whole (g.R.Runner.standing c.args.runner.now) trees none (g.R.Runner.tells c.args.runner.now) c.args.failmode (c.args.journal.now.rounds + 1) c.args.point
-    c.args.journal.now c.whole_round.new.journal (g.R.Runner.standing c.whole_round.new.runner) (g.R.Runner.tells c.whole_round.new.runner)
+    let w : Whole (g.R.Runner.standing c.args.runner.now) trees none (g.R.Runner.tells c.args.runner.now) c.args.failmode ((g.J.Records.seen c.args.journal.now).rounds + 1) c.args.point
+    (g.J.Records.seen c.args.journal.now) (g.J.Records.seen c.whole_round.new.journal) (g.R.Runner.standing c.whole_round.new.runner) (g.R.Runner.tells c.whole_round.new.runner)
     c.in_ok-finished.field-0.finished (map g.R.Runner.pending c.in_ok-finished.field-0.left) =
-    whole_moved _ _ _ _ _ _ _ _ _ _ _ _ _ _ _ _ _ refl refl c.new.ensures (λ images h. h) c.in_ok-finished.ensures.whole in
+    subst (λ (n : ℕ). Whole (g.R.Runner.standing c.args.runner.now) trees none (g.R.Runner.tells c.args.runner.now) c.args.failmode (n + 1) c.args.point
+    (g.J.Records.seen c.args.journal.now) (g.J.Records.seen c.whole_round.new.journal) (g.R.Runner.standing c.whole_round.new.runner) (g.R.Runner.tells c.whole_round.new.runner)
+    c.in_ok-finished.field-0.finished (map g.R.Runner.pending c.in_ok-finished.field-0.left)) c.rounds-round.ensures
+    (whole_moved _ _ _ _ _ _ _ _ _ _ _ _ _ _ _ _ _ refl refl c.new.ensures (λ images h. h) c.in_ok-finished.ensures.whole) in
     stopped_by c.from_residual-in_err-lines.result NoMemory _ c.from_residual-in_err-lines.ensures.1
     (λ before told.
     (let after = w.4 before told in (
@@ -49,11 +57,14 @@ returns-clause-ran g c =
     let requests : List Request = map (λ (r : Bor Request). r.now) c.args.unfinished.now in
     let entries : List (List ℕ × Tree) = c.args.bound.now in
     let trees : List (List Pending) = map g.R.Runner.pending c.args.trees in
-    let answered : List Completion = reverse (answered_in no_error (c.args.journal.now.rounds + 1) requests) in
-    let w : Whole (g.R.Runner.standing c.args.runner.now) trees answered (g.R.Runner.tells c.args.runner.now) c.args.failmode (c.args.journal.now.rounds + 1) c.args.point
-    c.args.journal.now c.whole_round.new.journal (g.R.Runner.standing c.whole_round.new.runner) (g.R.Runner.tells c.whole_round.new.runner)
+    let answered : List Completion = reverse (answered_in no_error ((g.J.Records.seen c.args.journal.now).rounds + 1) requests) in
+    let w : Whole (g.R.Runner.standing c.args.runner.now) trees answered (g.R.Runner.tells c.args.runner.now) c.args.failmode ((g.J.Records.seen c.args.journal.now).rounds + 1) c.args.point
+    (g.J.Records.seen c.args.journal.now) (g.J.Records.seen c.whole_round.new.journal) (g.R.Runner.standing c.whole_round.new.runner) (g.R.Runner.tells c.whole_round.new.runner)
     c.in_ok-finished.field-0.finished (map g.R.Runner.pending c.in_ok-finished.field-0.left) =
-    whole_moved _ _ _ _ _ _ _ _ _ _ _ _ _ _ _ _ _ refl refl (c.new.ensures ∙ sym (ap reverse (none_answered (c.args.journal.now.rounds + 1) requests))) (λ images h. h) c.in_ok-finished.ensures.whole in (
+    subst (λ (n : ℕ). Whole (g.R.Runner.standing c.args.runner.now) trees answered (g.R.Runner.tells c.args.runner.now) c.args.failmode (n + 1) c.args.point
+    (g.J.Records.seen c.args.journal.now) (g.J.Records.seen c.whole_round.new.journal) (g.R.Runner.standing c.whole_round.new.runner) (g.R.Runner.tells c.whole_round.new.runner)
+    c.in_ok-finished.field-0.finished (map g.R.Runner.pending c.in_ok-finished.field-0.left)) c.rounds-round.ensures
+    (whole_moved _ _ _ _ _ _ _ _ _ _ _ _ _ _ _ _ _ refl refl (c.new.ensures ∙ sym (ap reverse (none_answered ((g.J.Records.seen c.args.journal.now).rounds + 1) requests))) (λ images h. h) c.in_ok-finished.ensures.whole) in (
       w.0,
       record {
         journal = record { places = w.1.places; completions = w.1.completions; rounds = w.1.rounds; finished_is = refl; left_is = w.1.left_is };

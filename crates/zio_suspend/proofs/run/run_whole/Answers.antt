@@ -34,7 +34,7 @@ returns-in_err-begin-clause-cut g c =
     let show : Show = c.args.show.now in
     let n : RunSize = record { tops = length script.tops; images = c.args.images; requests = length (requests_of script.items) } in
     let s : Standing = g.R.Runner.standing c.args.runner.now in
-    let old : Journal = c.args.journal.now in
+    let old : Journal = (g.J.Records.seen c.args.journal.now) in
     let tells : Images → Type 0 = g.R.Runner.tells c.args.runner.now in
     let holds : List ℕ → Type 0 = g.O.Sink.holds c.args.out.now in
     let q = c.requires.script in
@@ -66,7 +66,7 @@ run_lines-requires-clause-going g c =
     let show : Show = c.args.show.now in
     let n : RunSize = record { tops = length script.tops; images = c.args.images; requests = length (requests_of script.items) } in
     let s : Standing = g.R.Runner.standing c.args.runner.now in
-    let old : Journal = c.args.journal.now in
+    let old : Journal = (g.J.Records.seen c.args.journal.now) in
     let tells : Images → Type 0 = g.R.Runner.tells c.args.runner.now in
     let holds : List ℕ → Type 0 = g.O.Sink.holds c.args.out.now in
     let q = c.requires.script in
@@ -88,7 +88,7 @@ returns-in_err-run_lines-clause-cut g c =
     let show : Show = c.args.show.now in
     let n : RunSize = record { tops = length script.tops; images = c.args.images; requests = length (requests_of script.items) } in
     let s : Standing = g.R.Runner.standing c.args.runner.now in
-    let old : Journal = c.args.journal.now in
+    let old : Journal = (g.J.Records.seen c.args.journal.now) in
     let tells : Images → Type 0 = g.R.Runner.tells c.args.runner.now in
     let holds : List ℕ → Type 0 = g.O.Sink.holds c.args.out.now in
     let q = c.requires.script in
@@ -106,7 +106,7 @@ returns-in_err-run_lines-clause-cut g c =
     let mid : List ℕ → Type 0 = g.O.Sink.holds c.begin.new.out in
     let first : Appends holds mid (shown_of show (pool_text n.tops n.images)) = subst (λ (m : ℕ). Appends holds mid (shown_of show (pool_text m n.images))) c.len.ensures c.in_ok-begin.ensures.ok in
     let now : Standing = g.R.Runner.standing c.run_lines.new.runner in
-    let after : Journal = c.run_lines.new.journal in
+    let after : Journal = (g.J.Records.seen c.run_lines.new.journal) in
     let new_tells : Images → Type 0 = g.R.Runner.tells c.run_lines.new.runner in
     let over : List ℕ → Type 0 = g.O.Sink.holds c.run_lines.new.out in
     let w : Stopping = stopping_of now (g.R.Runner.stops c.run_lines.new.runner) in
@@ -121,7 +121,7 @@ returns-in-Err-clause-cut g c =
     let show : Show = c.args.show.now in
     let n : RunSize = record { tops = length script.tops; images = c.args.images; requests = length (requests_of script.items) } in
     let s : Standing = g.R.Runner.standing c.args.runner.now in
-    let old : Journal = c.args.journal.now in
+    let old : Journal = (g.J.Records.seen c.args.journal.now) in
     let tells : Images → Type 0 = g.R.Runner.tells c.args.runner.now in
     let holds : List ℕ → Type 0 = g.O.Sink.holds c.args.out.now in
     let q = c.requires.script in
@@ -139,7 +139,7 @@ returns-in-Err-clause-cut g c =
     let mid : List ℕ → Type 0 = g.O.Sink.holds c.begin.new.out in
     let first : Appends holds mid (shown_of show (pool_text n.tops n.images)) = subst (λ (m : ℕ). Appends holds mid (shown_of show (pool_text m n.images))) c.len.ensures c.in_ok-begin.ensures.ok in
     let now : Standing = g.R.Runner.standing c.run_lines.new.runner in
-    let after : Journal = c.run_lines.new.journal in
+    let after : Journal = (g.J.Records.seen c.run_lines.new.journal) in
     let new_tells : Images → Type 0 = g.R.Runner.tells c.run_lines.new.runner in
     let over : List ℕ → Type 0 = g.O.Sink.holds c.run_lines.new.out in
     let h : SeenFold = fold_seen g.R.Runner.pending c.run_lines.new.fold in
@@ -159,7 +159,7 @@ returns-in_err-finish-clause-cut g c =
     let show : Show = c.args.show.now in
     let n : RunSize = record { tops = length script.tops; images = c.args.images; requests = length (requests_of script.items) } in
     let s : Standing = g.R.Runner.standing c.args.runner.now in
-    let old : Journal = c.args.journal.now in
+    let old : Journal = (g.J.Records.seen c.args.journal.now) in
     let tells : Images → Type 0 = g.R.Runner.tells c.args.runner.now in
     let holds : List ℕ → Type 0 = g.O.Sink.holds c.args.out.now in
     let q = c.requires.script in
@@ -177,7 +177,7 @@ returns-in_err-finish-clause-cut g c =
     let mid : List ℕ → Type 0 = g.O.Sink.holds c.begin.new.out in
     let first : Appends holds mid (shown_of show (pool_text n.tops n.images)) = subst (λ (m : ℕ). Appends holds mid (shown_of show (pool_text m n.images))) c.len.ensures c.in_ok-begin.ensures.ok in
     let now : Standing = g.R.Runner.standing c.run_lines.new.runner in
-    let after : Journal = c.run_lines.new.journal in
+    let after : Journal = (g.J.Records.seen c.run_lines.new.journal) in
     let new_tells : Images → Type 0 = g.R.Runner.tells c.run_lines.new.runner in
     let over : List ℕ → Type 0 = g.O.Sink.holds c.run_lines.new.out in
     let h : SeenFold = fold_seen g.R.Runner.pending c.run_lines.new.fold in
@@ -207,7 +207,7 @@ returns-clause-whole g c =
     let show : Show = c.args.show.now in
     let n : RunSize = record { tops = length script.tops; images = c.args.images; requests = length (requests_of script.items) } in
     let s : Standing = g.R.Runner.standing c.args.runner.now in
-    let old : Journal = c.args.journal.now in
+    let old : Journal = (g.J.Records.seen c.args.journal.now) in
     let tells : Images → Type 0 = g.R.Runner.tells c.args.runner.now in
     let holds : List ℕ → Type 0 = g.O.Sink.holds c.args.out.now in
     let q = c.requires.script in
@@ -225,7 +225,7 @@ returns-clause-whole g c =
     let mid : List ℕ → Type 0 = g.O.Sink.holds c.begin.new.out in
     let first : Appends holds mid (shown_of show (pool_text n.tops n.images)) = subst (λ (m : ℕ). Appends holds mid (shown_of show (pool_text m n.images))) c.len.ensures c.in_ok-begin.ensures.ok in
     let now : Standing = g.R.Runner.standing c.run_lines.new.runner in
-    let after : Journal = c.run_lines.new.journal in
+    let after : Journal = (g.J.Records.seen c.run_lines.new.journal) in
     let new_tells : Images → Type 0 = g.R.Runner.tells c.run_lines.new.runner in
     let over : List ℕ → Type 0 = g.O.Sink.holds c.run_lines.new.out in
     let h : SeenFold = fold_seen g.R.Runner.pending c.run_lines.new.fold in
@@ -244,22 +244,22 @@ pub returns-clause-healed : goal.returns-clause-healed
 returns-clause-healed g c before told healed fit small accepts =
     let script : Script = c.args.script.now in
     let q = c.requires.script in
-    let journal : Journal = c.run_lines.new.journal in
+    let journal : Journal = (g.J.Records.seen c.run_lines.new.journal) in
     let w = returns-clause-whole g c before told in
     whole_is_plain c.args.show.now (record { tops = length script.tops; images = c.args.images; requests = length (requests_of script.items) })
     script before journal w.0 w.1 c.ending_of-ending.result w.2
     (c.healed_scripts_store_plainly.ensures q.0 script before journal.places q.1) healed fit small accepts
 
 pub run_lines-requires-clause-chosen : goal.run_lines-requires-clause-chosen
-run_lines-requires-clause-chosen g c = none_yet g.R.Runner.chosen c.args.journal.now c.requires.empty
+run_lines-requires-clause-chosen g c = none_yet g.R.Runner.chosen (g.J.Records.seen c.args.journal.now) c.requires.empty
 
 pub returns-in_err-begin-clause-chosen : goal.returns-in_err-begin-clause-chosen
-returns-in_err-begin-clause-chosen g c = none_yet g.R.Runner.chosen c.args.journal.now c.requires.empty
+returns-in_err-begin-clause-chosen g c = none_yet g.R.Runner.chosen (g.J.Records.seen c.args.journal.now) c.requires.empty
 
 pub returns-clause-blocks : goal.returns-clause-blocks
 returns-clause-blocks g c listed =
     let f : SeenFold = fold_seen g.R.Runner.pending c.run_lines.new.fold in
     let now : Standing = g.R.Runner.standing c.run_lines.new.runner in
     subst (AreBlocks g.R.Runner.fits (sizes_of now.tops)) (sym c.from_vec.ensures)
-    (blocks_of_steady g.R.Runner.fits now c.run_lines.new.journal.rounds f c.in-Ok.blocks.items c.in_ok-run_lines.ensures.steady
+    (blocks_of_steady g.R.Runner.fits now (g.J.Records.seen c.run_lines.new.journal).rounds f c.in-Ok.blocks.items c.in_ok-run_lines.ensures.steady
     (c.in-Ok.ensures.blocks listed) (c.in-Ok.ensures.once listed) (c.in-Ok.ensures.order listed))

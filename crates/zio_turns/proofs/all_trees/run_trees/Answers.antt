@@ -2,7 +2,7 @@ use Rattle.std.proofs.Common.{◌≤◌, ◌+◌, List, length, slice_get, arith
 use Rattle.std.proofs.lemmas.List.{length-set}
 use Rattle.zio_types.specs.declared.place.Top.{Top}
 use Rattle.zio_disks.proofs.DiskLemmas.{same_itself, same_then}
-use Rattle.zio_turns.specs.Stages.{OutcomeIn}
+use Rattle.zio_staged.specs.Stages.{OutcomeIn}
 use Rattle.zio_turns.specs.declared.trees.TreeState.{TreeState}
 use Rattle.zio_turns.specs.declared.trees.TreeState.TheVariants.{Settled, UnderWay}
 use Rattle.std.specs.List.{AllByRecursion, sum_by}

@@ -1,10 +1,11 @@
-use Rattle.std.proofs.Common.{◌≡◌, List, map, arith, ap, ◌∙◌, sym, subst}
+use Rattle.std.proofs.Common.{◌≡◌, List, map, arith, ap, ◌∙◌, refl, sym, subst}
 use Rattle.std.proofs.lemmas.Result.{err_from_is_err_and}
 use Rattle.zio_types.specs.declared.place.Top.{Top}
 use Rattle.zio_disks.specs.Disks.{AreSameDisks}
 use Rattle.zio_disks.proofs.DiskLemmas.{same_itself, same_then}
 use Rattle.zio_turns.specs.UnderTurns.{TurnedIn}
-use Rattle.zio_turns.proofs.DriveMoves.{done_told, drive_begins, drive_issued, drive_taken, drive_tells, drive_turned, no_line, run_some, taken_less}
+use Rattle.zio_turns.proofs.DriveMoves.{done_told, drive_begins, drive_issued, drive_taken, drive_tells, drive_turn, drive_turned, no_line, run_some, taken_less}
+use Rattle.zio_turns.proofs.Helps.{stays_turned, turn_stays}
 use Rattle.zio_turns.proofs.StopLemmas.{on_err, run_stops, same_stops}
 use Rattle.zio_turns.proofs.drive.run_on.Goals as goal
 
@@ -26,34 +27,53 @@ returns-then-choices-eq0-clause-done g c =
           (omega (arith, c.saturating_add-choices.ensures, c.if-choices-eq0.true)),
     )
 
+pub help-requires-clause-turn : goal.help-requires-clause-turn
+help-requires-clause-turn g c =
+    drive_turn g.N.NodeFacts.nodes g.D.Disk.bytes g.D.Disk.faults g.D.Disk.image g.N.Staged.over c.args.turns.now.nodes c.args.turns.now.line
+    c.args.grounds.now c.picks.turns.nodes c.take-key.new.self.nodes c.picks.turns.nodes c.picks.turns.line c.take-key.new.self.line
+    c.picks.turns.line c.picks.grounds c.picks.grounds c.picks.invariant.1 c.take-key.result c.tops.result.now
+    (turn_stays g.N.NodeFacts.nodes c.picks.turns.nodes c.take-key.new.self.nodes c.picks.turns.line c.take-key.new.self.line
+    c.take-key.result c.take-key.ensures.turn) c.take-key.ensures.nodes c.tops.ensures c.requires.going
+
+pub returns-in_err-help-clause-stopped : goal.returns-in_err-help-clause-stopped
+returns-in_err-help-clause-stopped g c = on_err c.from_residual.result
+    (run_stops g.N.NodeFacts.nodes g.D.Disk.bytes g.D.Disk.image c.args.turns.now.nodes c.picks.turns.nodes c.args.turns.now.line c.picks.turns.line
+    c.args.grounds.now c.picks.grounds c.picks.grounds.disks.items
+    (λ t sizes f before s sound going. let turned = c.picks.invariant.1.gone t sizes f before s sound going in (turned.now, turned.going))
+    (same_stops g.N.NodeFacts.nodes g.D.Disk.bytes g.D.Disk.image c.picks.turns.nodes c.picks.turns.line c.picks.grounds
+    c.picks.grounds.disks.items refl))
+
 pub run_turn-requires-clause-going : goal.run_turn-requires-clause-going
 run_turn-requires-clause-going g c =
     drive_taken g.N.NodeFacts.nodes g.D.Disk.bytes g.D.Disk.faults g.D.Disk.image g.N.Staged.over c.args.turns.now.nodes c.args.turns.now.line
-    c.args.grounds.now c.picks.turns.nodes c.take-key.new.self.nodes c.picks.turns.nodes c.picks.turns.line
-    c.take-key.new.self.line c.picks.turns.line c.picks.grounds c.picks.grounds c.picks.invariant.1 c.take-key.result
-    c.take-key.ensures.turn c.requires.going
+    c.args.grounds.now c.picks.turns.nodes c.help.new.turns.nodes c.picks.turns.nodes c.picks.turns.line
+    c.help.new.turns.line c.picks.turns.line c.picks.grounds c.picks.grounds c.picks.invariant.1 c.take-key.result
+    (stays_turned g.N.NodeFacts.nodes c.picks.turns.nodes c.take-key.new.self.nodes c.help.new.turns.nodes c.picks.turns.line
+    c.take-key.new.self.line c.help.new.turns.line c.take-key.result c.take-key.ensures.turn c.in_ok-help.ensures.kept) c.requires.going
 
 pub picks-preserved-in-Nothing : goal.picks-preserved-in-Nothing
 picks-preserved-in-Nothing g c = (
   subst (λ (ds : List _). AreSameDisks g.D.Disk.bytes g.D.Disk.faults g.D.Disk.faults_at_fetch g.D.Disk.home g.D.Disk.image g.D.Disk.sound c.args.grounds.now.disks.items ds)
       (sym c.run_turn.ensures.same.disks_same) c.picks.invariant.0,
   drive_turned g.N.NodeFacts.nodes g.D.Disk.bytes g.D.Disk.faults g.D.Disk.image g.N.Staged.over c.args.turns.now.nodes c.args.turns.now.line
-      c.args.grounds.now c.picks.turns.nodes c.take-key.new.self.nodes c.run_turn.new.turns.nodes c.picks.turns.line c.take-key.new.self.line
+      c.args.grounds.now c.picks.turns.nodes c.help.new.turns.nodes c.run_turn.new.turns.nodes c.picks.turns.line c.help.new.turns.line
       c.run_turn.new.turns.line c.picks.grounds c.run_turn.new.grounds c.picks.invariant.1
-      c.take-key.result c.in_ok-told.told c.take-key.ensures.turn c.in_ok-told.ensures.turns c.in-Nothing.is
+      c.take-key.result c.in_ok-told.told (stays_turned g.N.NodeFacts.nodes c.picks.turns.nodes c.take-key.new.self.nodes c.help.new.turns.nodes c.picks.turns.line
+      c.take-key.new.self.line c.help.new.turns.line c.take-key.result c.take-key.ensures.turn c.in_ok-help.ensures.kept) c.in_ok-told.ensures.turns c.in-Nothing.is
       c.in_ok-told.ensures.over c.run_turn.ensures.same
       (taken_less g.N.NodeFacts.nodes g.D.Disk.bytes g.D.Disk.faults g.D.Disk.image g.N.Staged.over c.args.turns.now.nodes c.args.turns.now.line
-      c.args.grounds.now c.picks.turns.nodes c.take-key.new.self.nodes c.run_turn.new.turns.nodes c.picks.turns.line c.take-key.new.self.line
+      c.args.grounds.now c.picks.turns.nodes c.help.new.turns.nodes c.run_turn.new.turns.nodes c.picks.turns.line c.help.new.turns.line
       c.run_turn.new.turns.line c.picks.grounds c.run_turn.new.grounds c.picks.invariant.1
-      c.take-key.ensures.nodes c.take-key.ensures.len c.in_ok-told.ensures.less),
+      c.take-key.new.self.nodes c.take-key.new.self.line c.take-key.ensures.nodes c.take-key.ensures.len c.in_ok-help.ensures.less c.in_ok-told.ensures.less),
 )
 
 pub returns-in_default-clause-runs : goal.returns-in_default-clause-runs
 returns-in_default-clause-runs g c =
     drive_tells g.N.NodeFacts.nodes g.D.Disk.bytes g.D.Disk.faults g.D.Disk.image g.N.Staged.over c.args.turns.now.nodes c.args.turns.now.line
-    c.args.grounds.now c.picks.turns.nodes c.take-key.new.self.nodes c.run_turn.new.turns.nodes c.picks.turns.line c.take-key.new.self.line
+    c.args.grounds.now c.picks.turns.nodes c.help.new.turns.nodes c.run_turn.new.turns.nodes c.picks.turns.line c.help.new.turns.line
     c.run_turn.new.turns.line c.picks.grounds c.run_turn.new.grounds c.picks.invariant.1
-    c.take-key.result c.in_ok-told.told c.take-key.ensures.turn c.in_ok-told.ensures.turns
+    c.take-key.result c.in_ok-told.told (stays_turned g.N.NodeFacts.nodes c.picks.turns.nodes c.take-key.new.self.nodes c.help.new.turns.nodes c.picks.turns.line
+    c.take-key.new.self.line c.help.new.turns.line c.take-key.result c.take-key.ensures.turn c.in_ok-help.ensures.kept) c.in_ok-told.ensures.turns
 
 pub returns-in_default-clause-done : goal.returns-in_default-clause-done
 returns-in_default-clause-done g c = done_told _ _ c.in_ok-told.told c.in_default.not-Nothing
@@ -61,17 +81,17 @@ returns-in_default-clause-done g c = done_told _ _ c.in_ok-told.told c.in_defaul
 pub returns-in_default-clause-less : goal.returns-in_default-clause-less
 returns-in_default-clause-less g c =
     let less = taken_less g.N.NodeFacts.nodes g.D.Disk.bytes g.D.Disk.faults g.D.Disk.image g.N.Staged.over c.args.turns.now.nodes c.args.turns.now.line
-    c.args.grounds.now c.picks.turns.nodes c.take-key.new.self.nodes c.run_turn.new.turns.nodes c.picks.turns.line c.take-key.new.self.line
+    c.args.grounds.now c.picks.turns.nodes c.help.new.turns.nodes c.run_turn.new.turns.nodes c.picks.turns.line c.help.new.turns.line
     c.run_turn.new.turns.line c.picks.grounds c.run_turn.new.grounds c.picks.invariant.1
-    c.take-key.ensures.nodes c.take-key.ensures.len c.in_ok-told.ensures.less in
+    c.take-key.new.self.nodes c.take-key.new.self.line c.take-key.ensures.nodes c.take-key.ensures.len c.in_ok-help.ensures.less c.in_ok-told.ensures.less in
     omega (arith, less, c.picks.invariant.1.less)
 
 pub returns-in_default-clause-fewer : goal.returns-in_default-clause-fewer
 returns-in_default-clause-fewer g c = λ tells.
     let less = taken_less g.N.NodeFacts.nodes g.D.Disk.bytes g.D.Disk.faults g.D.Disk.image g.N.Staged.over c.args.turns.now.nodes
-    c.args.turns.now.line c.args.grounds.now c.picks.turns.nodes c.take-key.new.self.nodes c.run_turn.new.turns.nodes
-    c.picks.turns.line c.take-key.new.self.line c.run_turn.new.turns.line c.picks.grounds c.run_turn.new.grounds c.picks.invariant.1
-    c.take-key.ensures.nodes c.take-key.ensures.len c.in_ok-told.ensures.less in
+    c.args.turns.now.line c.args.grounds.now c.picks.turns.nodes c.help.new.turns.nodes c.run_turn.new.turns.nodes
+    c.picks.turns.line c.help.new.turns.line c.run_turn.new.turns.line c.picks.grounds c.run_turn.new.grounds c.picks.invariant.1
+    c.take-key.new.self.nodes c.take-key.new.self.line c.take-key.ensures.nodes c.take-key.ensures.len c.in_ok-help.ensures.less c.in_ok-told.ensures.less in
     omega (arith, less, c.picks.invariant.1.less)
 
 pub returns-in_default-clause-inside : goal.returns-in_default-clause-inside
@@ -102,7 +122,7 @@ picks-preserved g c = (
 )
 
 pub returns-in_err-told-clause-stopped : goal.returns-in_err-told-clause-stopped
-returns-in_err-told-clause-stopped g c = on_err c.from_residual.result
+returns-in_err-told-clause-stopped g c = on_err c.from_residual-in_err-told.result
     (run_stops g.N.NodeFacts.nodes g.D.Disk.bytes g.D.Disk.image c.args.turns.now.nodes c.picks.turns.nodes c.args.turns.now.line c.picks.turns.line
     c.args.grounds.now c.picks.grounds c.run_turn.new.grounds.disks.items
     (λ t sizes f before s sound going. let turned = c.picks.invariant.1.gone t sizes f before s sound going in (turned.now, turned.going))

@@ -2,7 +2,7 @@ use Rattle.std.proofs.Common.{◌≡◌, ◌<◌, Some, sym, subst, ◌∙◌}
 use Rattle.slab.specs.Slab.{get}
 use Rattle.zio_types.specs.declared.request.Phase.TheVariants.{Done}
 use Rattle.zio_counts.specs.Tallies.{counted}
-use Rattle.zio_turns.specs.Stages.{HearsSome}
+use Rattle.zio_staged.specs.Stages.{HearsSome}
 use Rattle.zio_turns.specs.declared.entry.TiedNode.{TiedNode}
 use Rattle.zio_turns.proofs.ActLemmas.{has_heard, in_place, lent_there}
 use Rattle.zio_turns.proofs.Links.{some_is}

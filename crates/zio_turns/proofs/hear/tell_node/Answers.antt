@@ -3,7 +3,7 @@ use Rattle.std.proofs.lemmas.Result.{on_ok_weaker}
 use Rattle.slab.specs.Slab.{get}
 use Rattle.zio_types.specs.declared.request.Phase.TheVariants.{Ready}
 use Rattle.zio_counts.specs.Tallies.{counted}
-use Rattle.zio_turns.specs.Stages.{HearsSomeEarly}
+use Rattle.zio_staged.specs.Stages.{HearsSomeEarly}
 use Rattle.zio_turns.specs.declared.entry.TiedNode.{TiedNode}
 use Rattle.zio_turns.proofs.ActLemmas.{has_heard, in_place, lent_there}
 use Rattle.zio_turns.proofs.Links.{some_is}

@@ -1,4 +1,4 @@
-use Rattle.zio_turns.proofs.TurnLoops.{turning_begins, turning_can, turning_ends, turning_finishes, turning_goes, turning_leaves, turning_leaves_less, turning_rests, turning_roots, turning_takes, turning_told}
+use Rattle.zio_turns.proofs.TurnLoops.{turning_begins, turning_can, turning_ends, turning_finishes, turning_goes, turning_leaves, turning_leaves_less, turning_queued_less, turning_queues, turning_rests, turning_roots, turning_same, turning_takes, turning_told}
 use Rattle.zio_turns.proofs.turn.run_turn.Goals as goal
 
 pub stages-init : goal.stages-init
@@ -19,13 +19,38 @@ stages-preserved g c =
     c.step.new.self.nodes c.step.new.self.line c.step.new.services s.0 s.1 s.5 s.3 c.step.ensures.tops c.in-Told.field-0 s.4
     c.in-Ok.ensures.over (rw c.in-Told.is at c.in-Ok.ensures.less)
 
-pub stages-preserved-in-Goes : goal.stages-preserved-in-Goes
-stages-preserved-in-Goes g c =
+pub stages-preserved-else-queued : goal.stages-preserved-else-queued
+stages-preserved-else-queued g c =
     let s = rw c.in-Goes.is at c.in-Ok.ensures.steps in
-    turning_goes g.N.NodeFacts.nodes g.N.Staged.over g.D.Disk.bytes g.D.Disk.image c.args.turns.now.nodes c.args.turns.now.line
+    turning_same g.N.NodeFacts.nodes g.N.Staged.over g.D.Disk.bytes g.D.Disk.image c.args.turns.now.nodes c.args.turns.now.line
+    c.args.grounds.now c.args.key c.step.new.self.nodes c.step.new.self.line (record c.stages.grounds { desk = c.step.new.services })
+    (turning_goes g.N.NodeFacts.nodes g.N.Staged.over g.D.Disk.bytes g.D.Disk.image c.args.turns.now.nodes c.args.turns.now.line
     c.args.grounds.now c.args.key c.stages.turns.nodes c.stages.turns.line c.stages.grounds c.stages.invariant c.requires.going
     c.step.new.self.nodes c.step.new.self.line c.step.new.services s.0 s.1 s.5 s.3 c.step.ensures.tops s.4 c.in-Ok.ensures.over
-    (rw c.in-Goes.is at c.in-Ok.ensures.less)
+    (rw c.in-Goes.is at c.in-Ok.ensures.less))
+    c.requires.going c.queue_heavy.new.turns.nodes c.queue_heavy.new.turns.line c.queue_heavy.ensures.nodes
+    (rw c.if-queued.false at c.in-Ok-queue_heavy.ensures.line)
+
+pub returns-then-queued-clause-turns : goal.returns-then-queued-clause-turns
+returns-then-queued-clause-turns g c =
+    let s = rw c.in-Goes.is at c.in-Ok.ensures.steps in
+    turning_queues g.N.NodeFacts.nodes g.N.Staged.over g.D.Disk.bytes g.D.Disk.image c.args.turns.now.nodes c.args.turns.now.line
+    c.args.grounds.now c.args.key c.step.new.self.nodes c.step.new.self.line (record c.stages.grounds { desk = c.step.new.services })
+    (turning_goes g.N.NodeFacts.nodes g.N.Staged.over g.D.Disk.bytes g.D.Disk.image c.args.turns.now.nodes c.args.turns.now.line
+    c.args.grounds.now c.args.key c.stages.turns.nodes c.stages.turns.line c.stages.grounds c.stages.invariant c.requires.going
+    c.step.new.self.nodes c.step.new.self.line c.step.new.services s.0 s.1 s.5 s.3 c.step.ensures.tops s.4 c.in-Ok.ensures.over
+    (rw c.in-Goes.is at c.in-Ok.ensures.less))
+    c.requires.going c.queue_heavy.new.turns.nodes c.queue_heavy.new.turns.line c.queue_heavy.ensures.nodes
+    (rw c.if-queued.true at c.in-Ok-queue_heavy.ensures.line)
+
+pub returns-then-queued-clause-less : goal.returns-then-queued-clause-less
+returns-then-queued-clause-less g c =
+    let s = rw c.in-Goes.is at c.in-Ok.ensures.steps in
+    turning_queued_less g.N.NodeFacts.nodes g.N.Staged.over g.D.Disk.bytes g.D.Disk.image c.args.turns.now.nodes c.args.turns.now.line
+    c.args.grounds.now c.args.key c.stages.turns.nodes c.stages.turns.line c.stages.grounds c.stages.invariant c.requires.going
+    c.step.new.self.nodes c.step.new.self.line c.step.new.services s.0 s.1 s.5 s.3 c.step.ensures.tops
+    c.queue_heavy.new.turns.nodes c.queue_heavy.new.turns.line (rw c.in-Goes.is at c.in-Ok.ensures.less) c.queue_heavy.ensures.nodes
+    (rw c.if-queued.true at c.in-Ok-queue_heavy.ensures.line)
 
 pub returns-in-Ended-None-clause-turns : goal.returns-in-Ended-None-clause-turns
 returns-in-Ended-None-clause-turns g c =

@@ -1,4 +1,4 @@
-use Rattle.std.proofs.Common.{◌≡◌, List, map, refl, sym, ap, ◌∙◌, subst}
+use Rattle.std.proofs.Common.{◌≡◌, List, map, Result, Err, refl, sym, ap, ◌∙◌, subst}
 use Rattle.std.proofs.lemmas.Result.{err_from_is_err_and}
 use Rattle.zio_cksum.specs.Images.{Setting}
 use Rattle.zio_gang.specs.Attempts.{Pending}
@@ -18,6 +18,10 @@ use Rattle.zio_graph.proofs.OverTops.{trees_over}
 use Rattle.zio_graph.proofs.Overs.{loose_itself}
 use Rattle.zio_graph.proofs.Standings.{HasBegun, IsSeenEnd, as_trees, begun_runs, ends_seen, have_units, loose_seen, over_within, round_seen, stands_seen, stopped_seen}
 use Rattle.zio_graph.proofs.graph.Graph.round.Goals as goal
+
+-- a call stops for what the call within it stopped for
+same_stop : {T U E : Type 0} (r : Result T E) (s : Result U E) (x y stop : E) → r ≡ Err y → s ≡ Err x → x ≡ y → s ≡ Err stop → r ≡ Err stop
+same_stop r s x y stop a b e f = cc
 
 pub run_wholes-requires-clause-steady : goal.run_wholes-requires-clause-steady
 run_wholes-requires-clause-steady g c =
@@ -262,7 +266,7 @@ returns-in_err-finished-clause-device g c =
     λ is.
     (let q = err_from_is_err_and c.from_residual-in_err-finished.result c.from_residual-in_err-finished.ensures.1 in
     subst (λ (ds : List _). AnyRose (map m.faults ds) (map m.faults c.run_wholes.new.grounds.disks.items)) begins.disks
-    (c.run_wholes.ensures.device (cc)))
+    (c.run_wholes.ensures.device (same_stop _ _ q.0 _ _ c.in_err-finished.was q.1 q.2 is)))
 
 pub returns-in_err-rests-clause-stopped : goal.returns-in_err-rests-clause-stopped
 returns-in_err-rests-clause-stopped g c =
@@ -337,7 +341,7 @@ returns-in_err-finished-clause-calm g c =
     } in
     λ is.
     (let q = err_from_is_err_and c.from_residual-in_err-finished.result c.from_residual-in_err-finished.ensures.1 in
-    c.run_wholes.ensures.calm (cc) ∙ ap (map m.faults) begins.disks)
+    c.run_wholes.ensures.calm (same_stop _ _ q.0 _ _ c.in_err-finished.was q.1 q.2 is) ∙ ap (map m.faults) begins.disks)
 
 pub returns-in_err-rests-clause-calm : goal.returns-in_err-rests-clause-calm
 returns-in_err-rests-clause-calm g c =

@@ -1,6 +1,6 @@
 use Rattle.std.proofs.Common.{◌≡◌, inl, inr, subst, sym, ◌∙◌}
 use Rattle.zio_exchange.specs.declared.outcome.Outcome.TheVariants.{Finished, Found}
-use Rattle.zio_turns.specs.Stages.{Hears, HearsSome}
+use Rattle.zio_staged.specs.Stages.{Hears, HearsSome}
 use Rattle.zio_nodes.specs.Nodes.{IsNode, nodes}
 use Rattle.zio_nodes.specs.declared.node.Node.{Node}
 use Rattle.zio_nodes.proofs.CopiesLemmas.{hears_answer}

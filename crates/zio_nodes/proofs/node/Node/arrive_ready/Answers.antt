@@ -1,5 +1,5 @@
 use Rattle.std.proofs.Common.{inl, inr, subst}
-use Rattle.zio_turns.specs.Stages.{HearsEarly}
+use Rattle.zio_staged.specs.Stages.{HearsEarly}
 use Rattle.zio_nodes.specs.Nodes.{IsNode, nodes}
 use Rattle.zio_nodes.specs.declared.node.Node.{Node}
 use Rattle.zio_nodes.proofs.CopiesLemmas.{no_teller}

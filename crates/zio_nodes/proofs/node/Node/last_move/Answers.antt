@@ -1,6 +1,6 @@
 use Rattle.std.proofs.Common.{refl, subst, sym}
 use Rattle.std.specs.Prelude.{IfErr, IfOk}
-use Rattle.zio_turns.specs.Stages.{Lessens}
+use Rattle.zio_staged.specs.Stages.{Lessens}
 use Rattle.zio_nodes.specs.Nodes.{MovesWith, StaysWith, left_of}
 use Rattle.zio_nodes.specs.declared.node.Node.{Node}
 use Rattle.zio_nodes.specs.declared.node.Node.TheVariants.{Copies, Heads, Leaf, Part}

@@ -1,6 +1,6 @@
 use Rattle.std.proofs.Common.{subst}
 use Rattle.std.specs.Prelude.{IfErr, IfOk}
-use Rattle.zio_turns.specs.Stages.{EachIn, Lessens, MayGoOn}
+use Rattle.zio_staged.specs.Stages.{EachIn, Lessens, MayGoOn}
 use Rattle.zio_nodes.specs.Nodes.{IsNodeDue, IsNodeOver, IsTreeOver, MovesWith, StaysWith, left_of}
 use Rattle.zio_nodes.specs.StageMoves.{IsStageMove}
 use Rattle.zio_nodes.specs.declared.node.Node.{Node}

@@ -1,6 +1,6 @@
 use Rattle.std.proofs.Common.{◌≡◌, ◌∙◌, refl, subst, sym, true}
 use Rattle.std.specs.Prelude.{IfOk, OnErr}
-use Rattle.zio_turns.specs.Stages.{Lessens}
+use Rattle.zio_staged.specs.Stages.{Lessens}
 use Rattle.zio_nodes.specs.Nodes.{MovesWith, StaysWith, left_of, moved}
 use Rattle.zio_nodes.specs.StageMoves.{IsStageMove}
 use Rattle.zio_nodes.specs.Stalls.{LeavesGang, children_of, hands_many}

@@ -1,7 +1,7 @@
 use Rattle.std.proofs.Common.{ap, subst, sym, ◌∙◌}
 use Rattle.std.specs.Box.{with_value}
 use Rattle.std.proofs.lemmas.Result.{on_err_weaker, on_ok_weaker}
-use Rattle.zio_turns.specs.Stages.{Hears, HearsSome}
+use Rattle.zio_staged.specs.Stages.{Hears, HearsSome}
 use Rattle.zio_nodes.specs.Nodes.{IsNodeDue, nodes}
 use Rattle.zio_nodes.specs.declared.node.Node.{Node}
 use Rattle.zio_nodes.specs.declared.node_box.NodeBox.{NodeBox}

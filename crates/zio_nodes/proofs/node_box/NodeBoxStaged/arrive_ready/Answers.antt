@@ -1,5 +1,5 @@
 use Rattle.std.proofs.Common.{subst, sym}
-use Rattle.zio_turns.specs.Stages.{HearsEarly, HearsSomeEarly}
+use Rattle.zio_staged.specs.Stages.{HearsEarly, HearsSomeEarly}
 use Rattle.zio_nodes.specs.Nodes.{IsNodeDue, IsNodeOver, nodes}
 use Rattle.zio_nodes.specs.declared.node.Node.{Node}
 use Rattle.zio_nodes.proofs.Boxes.{early_unboxed, some_early_unboxed}

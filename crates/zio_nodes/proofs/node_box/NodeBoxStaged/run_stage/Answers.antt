@@ -1,7 +1,7 @@
 use Rattle.std.proofs.Common.{◌≡◌, subst, sym}
 use Rattle.std.specs.Box.{with_value}
-use Rattle.zio_turns.specs.Moves.{moved as moved_to}
-use Rattle.zio_turns.specs.Stages.{EachIn, IsMove, Lessens, MayGoOn}
+use Rattle.zio_staged.specs.Moves.{moved as moved_to}
+use Rattle.zio_staged.specs.Stages.{EachIn, IsMove, Lessens, MayGoOn}
 use Rattle.zio_nodes.specs.BoxMoves.{unboxed}
 use Rattle.zio_nodes.specs.Nodes.{IsNodeDue, IsNodeOver, IsTreeOver, MovesWith, StaysWith, gave_of, left_of, moved, nodes}
 use Rattle.zio_nodes.specs.SealedMoves.{Move}

@@ -1,7 +1,7 @@
 use Rattle.std.proofs.Common.{◌≡◌, Some, ap, arith, subst, sym, ◌∙◌}
 use Rattle.zio_stages.specs.Sealed.{Outcome}
 use Rattle.zio_exchange.specs.declared.outcome.Outcome.TheVariants.{Again, Finished}
-use Rattle.zio_turns.specs.Stages.{Hears, HearsSome, OutcomeIn}
+use Rattle.zio_staged.specs.Stages.{Hears, HearsSome, OutcomeIn}
 use Rattle.zio_nodes.specs.Nodes.{nodes}
 use Rattle.zio_nodes.specs.TreeAts.{IsTreeOver}
 use Rattle.zio_nodes.specs.declared.node.Node.{Node}

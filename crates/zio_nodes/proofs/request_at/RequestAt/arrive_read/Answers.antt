@@ -176,7 +176,7 @@ pub returns-in-Gang-clause-heard : goal.returns-in-Gang-clause-heard
 returns-in-Gang-clause-heard c = λ t st d op v h.
     let shows = subst (λ (o : Outcome). IsOutcome t op o v) c.in-Found.is h.shows in
     subst (λ (u : Value). IsRequestNode t c.arrive_body.new.self (heard_of st c.args.child d u)) (sym shows.1)
-    (c.arrive_body.ensures.heard t st d c.in-Found.found refl h.there h.now.is)
+    (c.arrive_body.ensures.heard t st d c.in-Found.found c.into_found.ensures h.there h.now.is)
 
 pub returns-in-Gang-clause-gave : goal.returns-in-Gang-clause-gave
 returns-in-Gang-clause-gave c =

@@ -5,7 +5,7 @@ use Rattle.zio_masks.specs.declared.stage.Stage.TheVariants.{Done}
 use Rattle.zio_types.specs.declared.request.Phase.TheVariants.{Done as DonePhase}
 use Rattle.zio_children.specs.RequestKids.{is_ended}
 use Rattle.zio_stages.specs.RequestClaims.{HasEndedClaim}
-use Rattle.zio_turns.specs.Stages.{told_cost}
+use Rattle.zio_staged.specs.Stages.{told_cost}
 use Rattle.zio_stages.specs.RequestKinds.{points_to_gang}
 use Rattle.zio_nodes.specs.OwnAts.{IsClaimAtStage}
 use Rattle.zio_nodes.specs.declared.node.Node.TheVariants.{Request}

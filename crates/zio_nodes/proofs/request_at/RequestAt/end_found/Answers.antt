@@ -1,5 +1,5 @@
 use Rattle.std.proofs.Common.{◌≡◌, Some, refl, sym, ap, subst, ◌∙◌}
-use Rattle.zio_turns.specs.Stages.{OutcomeIn}
+use Rattle.zio_staged.specs.Stages.{OutcomeIn}
 use Rattle.zio_stages.specs.Labels.{closed_label}
 use Rattle.zio_stages.specs.RequestReads.{found_of}
 use Rattle.zio_stages.specs.RequestStoreds.{is_well}

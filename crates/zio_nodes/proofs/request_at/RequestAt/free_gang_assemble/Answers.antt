@@ -4,7 +4,7 @@ use Rattle.zio_masks.specs.declared.stage.Stage.{Stage}
 use Rattle.zio_masks.specs.declared.stage.Stage.TheVariants.{GangAssemble, GangIssue}
 use Rattle.zio_types.specs.declared.request.ChildKind.TheVariants.{Gang}
 use Rattle.zio_exchange.specs.declared.waiting.UnfinishedRequest.{UnfinishedRequest}
-use Rattle.zio_turns.specs.Stages.{told_cost}
+use Rattle.zio_staged.specs.Stages.{told_cost}
 use Rattle.zio_frames.specs.Frames.{fresh_stack}
 use Rattle.zio_stages.specs.HeadsNodes.{IsHeadsNode}
 use Rattle.zio_stages.specs.RequestFrees.{IsFreeingWith}

@@ -1,7 +1,7 @@
 use Rattle.std.proofs.Common.{◌+◌, refl, sym, ap, subst, ◌∙◌, arith, inl}
 use Rattle.zio_masks.specs.declared.stage.Stage.{Stage}
 use Rattle.zio_masks.specs.declared.stage.Stage.TheVariants.{IssueAsync}
-use Rattle.zio_turns.specs.Stages.{told_cost}
+use Rattle.zio_staged.specs.Stages.{told_cost}
 use Rattle.zio_stages.specs.RequestKinds.{has_gang_stages, is_gang_tree}
 use Rattle.zio_nodes.specs.OwnAts.{IsFreeAtStage}
 use Rattle.zio_nodes.specs.OwnBounds.{free_stages}

@@ -1,7 +1,7 @@
 use Rattle.std.proofs.Common.{true, refl, sym, ap, subst, lit≤}
 use Rattle.zio_masks.specs.declared.stage.Stage.{Stage}
 use Rattle.zio_masks.specs.declared.stage.Stage.TheVariants.{Ready, Done}
-use Rattle.zio_turns.specs.Stages.{told_cost}
+use Rattle.zio_staged.specs.Stages.{told_cost}
 use Rattle.zio_nodes.specs.OwnAts.{IsFreeAtStage}
 use Rattle.zio_nodes.specs.OwnBounds.{free_stages}
 use Rattle.zio_nodes.specs.Told.{is_told}

@@ -1,6 +1,6 @@
 use Rattle.std.proofs.Common.{[], ap, refl, subst, sym, ◌∙◌}
 use Rattle.zio_masks.specs.declared.stage.Stage.{Stage}
-use Rattle.zio_turns.specs.Stages.{Ends, OutcomeIn}
+use Rattle.zio_staged.specs.Stages.{Ends, OutcomeIn}
 use Rattle.zio_stages.specs.Labels.{closed_label}
 use Rattle.zio_stages.specs.RequestNodes.{IsRequestNode}
 use Rattle.zio_stages.specs.Sealed.{Outcome}

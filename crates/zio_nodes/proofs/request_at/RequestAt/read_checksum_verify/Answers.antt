@@ -1,7 +1,7 @@
 use Rattle.std.proofs.Common.{◌+◌, refl, sym, ap, subst, ◌∙◌, arith, inl, lit≤}
 use Rattle.zio_masks.specs.declared.stage.Stage.{Stage}
 use Rattle.zio_masks.specs.declared.stage.Stage.TheVariants.{ChecksumVerify, Done}
-use Rattle.zio_turns.specs.Stages.{told_cost}
+use Rattle.zio_staged.specs.Stages.{told_cost}
 use Rattle.zio_nodes.specs.OwnAts.{IsReadAtStage}
 use Rattle.zio_nodes.specs.OwnBounds.{read_stages}
 use Rattle.zio_nodes.specs.Told.{is_told}

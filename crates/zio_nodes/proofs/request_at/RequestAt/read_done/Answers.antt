@@ -5,7 +5,7 @@ use Rattle.zio_masks.specs.declared.stage.Stage.TheVariants.{Done}
 use Rattle.zio_types.specs.declared.request.Phase.TheVariants.{Done as DonePhase}
 use Rattle.zio_children.specs.RequestKids.{is_ended}
 use Rattle.zio_stages.specs.RequestReads.{IsAlone}
-use Rattle.zio_turns.specs.Stages.{told_cost}
+use Rattle.zio_staged.specs.Stages.{told_cost}
 use Rattle.zio_nodes.specs.OwnAts.{HasReadAll, IsReadAtStage}
 use Rattle.zio_nodes.specs.declared.node.Node.TheVariants.{Request}
 use Rattle.zio_nodes.specs.declared.request_at.RequestAt.{RequestAt}

@@ -4,8 +4,8 @@ use Rattle.zio_masks.specs.declared.stage.Stage.TheVariants.{GangIssue, Ready}
 use Rattle.zio_types.specs.declared.request.ChildKind.TheVariants.{Gang}
 use Rattle.zio_types.specs.declared.request.Phase.TheVariants.{Done}
 use Rattle.zio_frames.specs.Frames.{fresh_stack}
-use Rattle.zio_turns.specs.Stages.{told_cost}
-use Rattle.zio_turns.specs.declared.staged.Move.TheVariants.{Wait}
+use Rattle.zio_staged.specs.Stages.{told_cost}
+use Rattle.zio_staged.specs.declared.staged.Move.TheVariants.{Wait}
 use Rattle.zio_stages.specs.CopiesNodes.{IsCopiesNode}
 use Rattle.zio_stages.specs.ReadCounts.{HasHandedAll, HasWalkBegun}
 use Rattle.zio_stages.specs.RequestKinds.{is_gang_tree}

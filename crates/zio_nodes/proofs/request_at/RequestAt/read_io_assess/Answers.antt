@@ -1,7 +1,7 @@
 use Rattle.std.proofs.Common.{◌+◌, Bool, true, false, inl, refl, sym, ap, subst, ◌∙◌, arith, inr}
 use Rattle.zio_masks.specs.declared.stage.Stage.{Stage}
 use Rattle.zio_masks.specs.declared.stage.Stage.TheVariants.{VdevIoAssess, VdevIoStart}
-use Rattle.zio_turns.specs.Stages.{told_cost}
+use Rattle.zio_staged.specs.Stages.{told_cost}
 use Rattle.zio_stages.specs.ReadCounts.{AssessesBody, HasHandedAll}
 use Rattle.zio_stages.specs.RequestReads.{ReadsOn}
 use Rattle.zio_nodes.specs.OwnAts.{HasReadAll, IsReadAtStage, MayReadOne}

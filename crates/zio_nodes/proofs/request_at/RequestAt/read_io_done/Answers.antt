@@ -3,7 +3,7 @@ use Rattle.zio_masks.specs.declared.stage.Stage.{Stage}
 use Rattle.zio_masks.specs.declared.stage.Stage.TheVariants.{VdevIoAssess, VdevIoDone, VdevIoStart}
 use Rattle.zio_types.specs.declared.request.ChildKind.TheVariants.{Vdev}
 use Rattle.zio_types.specs.declared.request.Phase.TheVariants.{Done}
-use Rattle.zio_turns.specs.Stages.{told_cost}
+use Rattle.zio_staged.specs.Stages.{told_cost}
 use Rattle.zio_stages.specs.ReadCounts.{HasHandedAll}
 use Rattle.zio_nodes.specs.Bounds.{due_left}
 use Rattle.zio_nodes.specs.OwnAts.{IsReadAtStage, MayReadOne}

@@ -2,7 +2,7 @@ use Rattle.std.proofs.Common.{◌+◌, [], None, Ok, Option, Some, false, inl, r
 use Rattle.std.specs.Prelude.{IfSome}
 use Rattle.zio_masks.specs.declared.stage.Stage.{Stage}
 use Rattle.zio_masks.specs.declared.stage.Stage.TheVariants.{VdevIoDone, VdevIoStart}
-use Rattle.zio_turns.specs.Stages.{told_cost}
+use Rattle.zio_staged.specs.Stages.{told_cost}
 use Rattle.zio_stages.specs.NodeIos.{StartsBy}
 use Rattle.zio_stages.specs.OwnParts.{DoesThen}
 use Rattle.zio_stages.specs.ReadCounts.{HasHandedAll, IsNoneDue, StartsBody}

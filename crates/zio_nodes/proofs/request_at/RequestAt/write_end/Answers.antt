@@ -7,7 +7,7 @@ use Rattle.zio_stages.specs.RequestStoreds.{found_by, is_well}
 use Rattle.zio_stages.specs.Sealed.{Outcome}
 use Rattle.zio_stages.specs.declared.request_node.OwnFound.{OwnFound}
 use Rattle.zio_stages.specs.declared.request_node.RequestNode.{RequestNode}
-use Rattle.zio_turns.specs.Stages.{Ends, OutcomeIn}
+use Rattle.zio_staged.specs.Stages.{Ends, OutcomeIn}
 use Rattle.zio_nodes.specs.Nodes.{gave_of, nodes}
 use Rattle.zio_nodes.specs.Told.{is_told}
 use Rattle.zio_nodes.specs.TreeAts.{IsTreeOver}

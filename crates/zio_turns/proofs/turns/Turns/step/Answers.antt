@@ -5,8 +5,8 @@ use Rattle.slab.specs.Slab.{get, with_value}
 use Rattle.std.proofs.lemmas.Result.{IfOk-weaker, on_ok_weaker}
 use Rattle.zio_types.specs.declared.place.Top.{Top}
 use Rattle.zio_turns.specs.Acts.{CanEnd, HasEnded, StepIn, with_ties}
-use Rattle.zio_turns.specs.Stages.{OutcomeIn}
-use Rattle.zio_turns.specs.declared.staged.Move.TheVariants.{End, Grow, Leaf as ToLeaf, Next, Ready, Wait}
+use Rattle.zio_staged.specs.Stages.{OutcomeIn}
+use Rattle.zio_staged.specs.declared.staged.Move.TheVariants.{End, Grow, Leaf as ToLeaf, Next, Ready, Wait}
 use Rattle.zio_turns.proofs.ActLemmas.{changed_twice, has_grown, if_ok_both, in_place, lent_there, put_in, taken_out, told_in, waited, without}
 use Rattle.zio_turns.proofs.ClaimCalls.{steps_ask, steps_claim, steps_last}
 use Rattle.zio_turns.proofs.Insides.{all_ended, all_grown, all_put, all_told, all_waited}

@@ -1,5 +1,5 @@
 use Rattle.std.proofs.Common.{◌+◌, ◌∷◌, List, ℕ, length, slice_index, ap, ◌∙◌}
-use Rattle.zio_turns.specs.Entries.{times_in}
+use Rattle.zio_staged.specs.Entries.{times_in}
 use Rattle.zio_turns.proofs.Requeue.{length_taken, round_requeued, times_taken}
 use Rattle.zio_turns.proofs.turns.Turns.take.Goals as goal
 

@@ -1,0 +1,4 @@
+pub mod Entries
+pub mod Moves
+pub mod Parts
+pub mod Stages

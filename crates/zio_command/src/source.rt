@@ -18,6 +18,9 @@ pub(crate) enum ReadFault {
 }
 
 /// Reads a source to its end, or to one byte more than a script may have.
+///
+/// It is read into a room as large as that, and kept in a list of its own size. The C library, which gives a large block
+/// back to the system page by page, keeps smaller ones once such a room was freed: so the buffers of a run come cheap.
 pub(crate) fn read_all<S: Source>(alloc: Global, source: &mut S) -> Result<Vec<u8>, ReadFault>
     ensures failed { IsErrOf result ReadFault.Failed → Rose (S.faults source.old) (S.faults source.new) }
     ensures count { OnOk result (S.faults source.new ≡ S.faults source.old) }
@@ -25,8 +28,20 @@ pub(crate) fn read_all<S: Source>(alloc: Global, source: &mut S) -> Result<Vec<u
     ensures read { IfOk result (λ bytes. (text : List ℕ) → S.left source.old text → IsReadOf text bytes.items) }
     ensures rest { OnOk result ((text : List ℕ) → S.left source.old text → S.left source.new (rest_of text)) }
 {
+    let room = read_in_room(alloc, source)?;
+    copied(alloc, &room)
+}
+
+/// The same, in a room that may be larger.
+fn read_in_room<S: Source>(alloc: Global, source: &mut S) -> Result<Vec<u8>, ReadFault>
+    ensures failed { IsErrOf result ReadFault.Failed → Rose (S.faults source.old) (S.faults source.new) }
+    ensures count { OnOk result (S.faults source.new ≡ S.faults source.old) }
+    ensures sound { S.sound source.old → S.sound source.new × (S.faults source.new ≡ S.faults source.old) }
+    ensures read { IfOk result (λ bytes. (text : List ℕ) → S.left source.old text → IsReadOf text bytes.items) }
+    ensures rest { OnOk result ((text : List ℕ) → S.left source.old text → S.left source.new (rest_of text)) }
+{
     let mut piece = new_piece(alloc)?;
-    let mut bytes = Vec::new(alloc);
+    let mut bytes = new_room(alloc)?;
     while bytes.len() <= SCRIPT_LEN_MAX {
         let want = PIECE_LEN.min(SCRIPT_LEN_MAX + 1 - bytes.len());
         let taken = read_piece(source, &mut piece[..want], &mut bytes)?;
@@ -35,6 +50,26 @@ pub(crate) fn read_all<S: Source>(alloc: Global, source: &mut S) -> Result<Vec<u
         }
     }
     Ok(bytes)
+}
+
+fn new_room(alloc: Global) -> Result<Vec<u8>, ReadFault>
+    ensures ok { IfOk result (λ room. room.items ≡ []) }
+    ensures err { IfErr result (λ fault. fault ≡ ReadFault.Memory) }
+{
+    match Vec::with_capacity(alloc, SCRIPT_LEN_MAX + 1) {
+        Ok(room) => Ok(room),
+        Err(_) => Err(ReadFault::Memory),
+    }
+}
+
+fn copied(alloc: Global, bytes: &[u8]) -> Result<Vec<u8>, ReadFault>
+    ensures ok { IfOk result (λ copy. copy.items ≡ bytes.now) }
+    ensures err { IfErr result (λ fault. fault ≡ ReadFault.Memory) }
+{
+    match bytes.to_vec(alloc) {
+        Ok(copy) => Ok(copy),
+        Err(_) => Err(ReadFault::Memory),
+    }
 }
 
 fn new_piece(alloc: Global) -> Result<Vec<u8>, ReadFault>

@@ -22,8 +22,8 @@ use zio_staged::Staged;
 
 /// Runs until a turn has something to tell, or no key is queued and nothing waits at the leaves. The choices are the
 /// queued keys in their order, as many as a pick can tell apart, then each leaf that has a group to issue, in order of
-/// the leaves. Before a turn the helper may reckon ahead. Each sound round that goes on goes on, whatever is picked. It
-/// is stopped by a device exactly where a disk's count of faults rose.
+/// the leaves. Before a turn the helper may reckon ahead, for which groups may come first. Each sound round that goes on
+/// goes on, whatever is picked. It is stopped by a device exactly where a disk's count of faults rose.
 pub fn run_on<N: Staged, D: Disk + Drop, P: Picks, H: Helper<N>>(
     turns: &mut Turns<N>,
     grounds: &mut Grounds<D>,
@@ -62,7 +62,8 @@ pub fn run_on<N: Staged, D: Disk + Drop, P: Picks, H: Helper<N>>(
         if choices == 0 {
             return Ok(Turned::Nothing);
         }
-        let pick = picks.pick(choices);
+        let picked = picks.pick(choices);
+        let pick = groups_first(turns, helper, picked, keys, choices);
         if pick < keys {
             let key = turns.take(pick as usize);
             help(turns, grounds.alloc, grounds.desk.tops(), helper, key)?;
@@ -73,6 +74,25 @@ pub fn run_on<N: Staged, D: Disk + Drop, P: Picks, H: Helper<N>>(
         } else {
             issue_group(turns, grounds, pick - keys)?;
         }
+    }
+}
+
+/// The pick of a key, of so many, or of a group behind them. But where the first key is picked and its node has much to
+/// reckon, the first group comes before it, if there is one and the helper waits: so it has many nodes at a time.
+fn groups_first<N: Staged, H: Helper<N>>(
+    turns: &Turns<N>,
+    helper: &H,
+    picked: u32,
+    keys: u32,
+    choices: u32,
+) -> u32
+    requires { picked < choices }
+    ensures { result < choices }
+{
+    if picked == 0 && keys < choices && helper.waits() && turns.begins_heavy() {
+        keys
+    } else {
+        picked
     }
 }
 

@@ -49,6 +49,14 @@ impl Line {
         self.table.len() + self.ring.len()
     }
 
+    /// The first of those that wait. None is told once another was taken before it.
+    pub(crate) fn first(&self) -> Option<usize> {
+        if self.table.len() > 0 {
+            return None;
+        }
+        self.ring.front().copied()
+    }
+
     /// Adds a value at the end. Where memory is refused the line is as it was.
     pub fn push(&mut self, value: usize) -> Result<(), NoMemory>
         ensures ok { OnOk result (self.new ≡ self.old ++ value ∷ []) }

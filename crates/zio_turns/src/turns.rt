@@ -109,6 +109,14 @@ impl<N: Staged> Turns<N> {
         }
     }
 
+    /// Whether the first key in line has such a node. A line in whose midst keys were taken doesn't tell.
+    pub(crate) fn begins_heavy(&self) -> bool {
+        match self.line.first() {
+            Some(key) => self.is_heavy(key),
+            None => false,
+        }
+    }
+
     /// Runs the stage of the node under the key by what was reckoned of it. It is queued, or it is its turn, and that
     /// stays so; nothing is asked of the space. Without a node there nothing is done.
     pub fn go_on(&mut self, key: usize, ahead: N::Ahead)

@@ -5,7 +5,7 @@ use Rattle.zio_outside.specs.Outside.{Rose}
 use Rattle.zio_script.specs.declared.read.TheConstants.{SCRIPT_LEN_MAX}
 use Rattle.zio_command.specs.declared.source.ReadFault.TheVariants.{Failed}
 use Rattle.zio_command.proofs.ReadLemmas.{HasRead-end, HasRead-end_rest, HasRead-full, HasRead-more}
-use Rattle.zio_command.proofs.source.read_all.Goals as goal
+use Rattle.zio_command.proofs.source.read_in_room.Goals as goal
 
 pub returns-in_err-taken-clause-failed : goal.returns-in_err-taken-clause-failed
 returns-in_err-taken-clause-failed g c h =

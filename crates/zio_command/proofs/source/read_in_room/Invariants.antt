@@ -2,7 +2,7 @@ use Rattle.std.proofs.Common.{◌≡◌, ◌+◌, ◌-◌, ◌≤◌, ℕ, List,
 use Rattle.zio_script.specs.declared.read.TheConstants.{SCRIPT_LEN_MAX}
 use Rattle.zio_command.specs.declared.source.TheConstants.{PIECE_LEN}
 use Rattle.zio_command.proofs.ReadLemmas.{HasRead}
-use Rattle.zio_command.proofs.source.read_all.Given as goal
+use Rattle.zio_command.proofs.source.read_in_room.Given as goal
 
 abbrev pub invariant-loop-bytes : goal.invariant-loop-bytes
 invariant-loop-bytes g l = record {

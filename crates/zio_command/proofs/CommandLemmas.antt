@@ -10,14 +10,14 @@ use Rattle.zio_gen.specs.declared.script.TheConstants.{BLOCKS_MAX}
 use Rattle.zio_gen.specs.Generated.{script_text}
 use Rattle.zio_report.specs.declared.report.RunFault.{RunFault}
 use Rattle.zio_report.specs.declared.report.RunFault.TheVariants.{Device, Sink, Memory}
-use Rattle.zio_report.specs.declared.report.Show.{Show}
+use Rattle.zio_command.specs.declared.mode.RunMode.{RunMode}
 use Rattle.zio_command.specs.declared.words.Command.{Command}
-use Rattle.zio_command.specs.declared.words.Command.TheVariants.{Run, Gen, Load}
+use Rattle.zio_command.specs.declared.words.Command.TheVariants.{Run, Scrub, Gen, Load}
 use Rattle.zio_command.specs.Causes.{AreUntouched, IsLeafCause}
 use Rattle.zio_command.specs.Codes.{HasRun, RunEnds, ScriptEnds, WasUnbegun}
 use Rattle.zio_command.specs.Codes.RunEnds.{AsScript, Refused, RefusedCut, Wanting}
 use Rattle.zio_command.specs.Codes.ScriptEnds.{Ran, CutShort, NoImage, NoImageCut, Wanting as WantingFirst}
-use Rattle.zio_command.specs.Commands.{CommandEnds, image_names, runs, shown_by, told_by}
+use Rattle.zio_command.specs.Commands.{CommandEnds, image_names, mode_of, runs, told_by}
 use Rattle.zio_command.specs.Headline.{TellEach}
 use Rattle.zio_command.specs.Outcomes.{HasLawfulSize, IsEnding, IsSerialCode, cut_code}
 use Rattle.zio_command.specs.Seen.{ShelfSeen, SinkSeen, SourceSeen}
@@ -75,8 +75,8 @@ other_code code m n a b c d = elim c [
 ]
 
 -- a script's run has no code of the words, of a refused text or of the source
-pub script_never : {show : Show} {script : Script} {names : List (List ℕ)} {old_sink new_sink : SinkSeen} {old new : ShelfSeen} {old_journal journal : Journal} {code : ℕ}
-    → ScriptEnds show script names old_sink new_sink old new old_journal journal code → (n : ℕ) → code ≡ n → (n ≡ 1) ⊎ (n ≡ 2) ⊎ (n ≡ 5) → ⊥
+pub script_never : {mode : RunMode} {script : Script} {names : List (List ℕ)} {old_sink new_sink : SinkSeen} {old new : ShelfSeen} {old_journal journal : Journal} {code : ℕ}
+    → ScriptEnds mode script names old_sink new_sink old new old_journal journal code → (n : ℕ) → code ≡ n → (n ≡ 1) ⊎ (n ≡ 2) ⊎ (n ≡ 5) → ⊥
 script_never {code = code} (Ran e ran) n is (inl one) = no_ending code n e is (inl one)
 script_never {code = code} (Ran e ran) n is (inr (inl two)) = no_ending code n e is (inr (inl two))
 script_never {code = code} (Ran e ran) n is (inr (inr five)) = no_ending code n e is (inr (inr (inr (inl five))))
@@ -88,8 +88,8 @@ script_never {code = code} (NoImageCut leaf c cause cut) n is any = other_code c
 script_never {code = code} (WantingFirst c was) n is any = other_code code 8 n c is any (inr (inr (inr refl)))
 
 -- a run has no code of the words or of the source
-pub run_never : {told : List ℕ → Type 0} {show : Show} {names : List (List ℕ)} {old_sink new_sink : SinkSeen} {old new : ShelfSeen} {old_journal journal : Journal} {code : ℕ}
-    → RunEnds told show names old_sink new_sink old new old_journal journal code → (n : ℕ) → code ≡ n → (n ≡ 1) ⊎ (n ≡ 5) → ⊥
+pub run_never : {told : List ℕ → Type 0} {mode : RunMode} {names : List (List ℕ)} {old_sink new_sink : SinkSeen} {old new : ShelfSeen} {old_journal journal : Journal} {code : ℕ}
+    → RunEnds told mode names old_sink new_sink old new old_journal journal code → (n : ℕ) → code ≡ n → (n ≡ 1) ⊎ (n ≡ 5) → ⊥
 run_never (AsScript script is ends) n same (inl one) = script_never ends n same (inl one)
 run_never (AsScript script is ends) n same (inr five) = script_never ends n same (inr (inr five))
 run_never (Refused c was) n is (inl one) = omega arith
@@ -101,17 +101,17 @@ run_never (Wanting c was) n is (inr five) = omega arith
 
 -- ---- the codes 0, 4 and 9
 
-script_ended : {show : Show} {script : Script} {names : List (List ℕ)} {old_sink new_sink : SinkSeen} {old new : ShelfSeen} {old_journal journal : Journal} {code : ℕ}
-    → ScriptEnds show script names old_sink new_sink old new old_journal journal code → IsEnding code → HasRun show script names code old_sink new_sink old new journal
+script_ended : {mode : RunMode} {script : Script} {names : List (List ℕ)} {old_sink new_sink : SinkSeen} {old new : ShelfSeen} {old_journal journal : Journal} {code : ℕ}
+    → ScriptEnds mode script names old_sink new_sink old new old_journal journal code → IsEnding code → HasRun mode script names code old_sink new_sink old new journal
 script_ended (Ran e ran) ending = ran
 script_ended {code = code} (CutShort fault c cut) ending = absurd (cut_no_ending code fault ending c)
 script_ended {code = code} (NoImage c was) ending = absurd (no_ending code 3 ending c (inr (inr (inl refl))))
 script_ended {code = code} (NoImageCut leaf c cause cut) ending = absurd (no_ending code 6 ending c (inr (inr (inr (inr (inl refl))))))
 script_ended {code = code} (WantingFirst c was) ending = absurd (no_ending code 8 ending c (inr (inr (inr (inr (inr (inr refl)))))))
 
-run_ended : {told : List ℕ → Type 0} {show : Show} {names : List (List ℕ)} {old_sink new_sink : SinkSeen} {old new : ShelfSeen} {old_journal journal : Journal} {code : ℕ}
-    → RunEnds told show names old_sink new_sink old new old_journal journal code → IsEnding code
-    → (script : Script) × ((text : List ℕ) → told text → IsScriptOf text script) × HasRun show script names code old_sink new_sink old new journal
+run_ended : {told : List ℕ → Type 0} {mode : RunMode} {names : List (List ℕ)} {old_sink new_sink : SinkSeen} {old new : ShelfSeen} {old_journal journal : Journal} {code : ℕ}
+    → RunEnds told mode names old_sink new_sink old new old_journal journal code → IsEnding code
+    → (script : Script) × ((text : List ℕ) → told text → IsScriptOf text script) × HasRun mode script names code old_sink new_sink old new journal
 run_ended (AsScript script is ends) ending = (script, is, script_ended ends ending)
 run_ended {code = code} (Refused c was) ending = absurd (no_ending code 2 ending c (inr (inl refl)))
 run_ended {code = code} (RefusedCut fault c is cut) ending = absurd (no_ending code 6 ending c (inr (inr (inr (inr (inl refl))))))
@@ -120,18 +120,21 @@ run_ended {code = code} (Wanting c was) ending = absurd (no_ending code 8 ending
 pub command_ended : (command : Command) (old_source new_source : SourceSeen) (old_sink new_sink : SinkSeen) (old new : ShelfSeen) (old_journal journal : Journal) (code : ℕ)
     → CommandEnds command old_source new_source old_sink new_sink old new old_journal journal code → runs command ≡ true → IsEnding code
     → (script : Script) × ((text : List ℕ) → told_by old_source.left command text → IsScriptOf text script)
-    × HasRun (shown_by command) script (image_names command) code old_sink new_sink old new journal
+    × HasRun (mode_of command) script (image_names command) code old_sink new_sink old new journal
 command_ended (Run workers picks show names) old_source new_source old_sink new_sink old new old_journal journal code (inl unread) r e =
     absurd (no_ending code 5 e unread.0 (inr (inr (inr (inl refl)))))
 command_ended (Run workers picks show names) old_source new_source old_sink new_sink old new old_journal journal code (inr ends) r e = run_ended ends e
+command_ended (Scrub picks names) old_source new_source old_sink new_sink old new old_journal journal code (inl unread) r e =
+    absurd (no_ending code 5 e unread.0 (inr (inr (inr (inl refl)))))
+command_ended (Scrub picks names) old_source new_source old_sink new_sink old new old_journal journal code (inr ends) r e = run_ended ends e
 command_ended (Gen seed n) old_source new_source old_sink new_sink old new old_journal journal code ends r e = let no : false ≡ true = r in cc
 command_ended (Load seed n names) old_source new_source old_sink new_sink old new old_journal journal code (script, accepted, ends) r e =
     (script, λ text told. subst (λ (t : List ℕ). IsScriptOf t script) (sym told) accepted, script_ended ends e)
 
 -- ---- completeness
 
-script_complete : {show : Show} {script : Script} {names : List (List ℕ)} {old_sink new_sink : SinkSeen} {old new : ShelfSeen} {old_journal journal : Journal} {code : ℕ}
-    → ScriptEnds show script names old_sink new_sink old new old_journal journal code → (images : Images) → old.tells → TellEach old.image names images
+script_complete : {mode : RunMode} {script : Script} {names : List (List ℕ)} {old_sink new_sink : SinkSeen} {old new : ShelfSeen} {old_journal journal : Journal} {code : ℕ}
+    → ScriptEnds mode script names old_sink new_sink old new old_journal journal code → (images : Images) → old.tells → TellEach old.image names images
     → AllByRecursion HasLawfulSize (map (length {A = ℕ}) images) → HaveImages (length images) (leaves_of script.tops)
     → ¬ Rose old_sink.faults new_sink.faults → ¬ Rose old.faults new.faults → ¬ Rose old.disk_faults new.disk_faults → IsEnding code ⊎ (code ≡ 8)
 script_complete (Ran e ran) images tells each lawful have s f d = inl e
@@ -149,8 +152,8 @@ have_same : (images : ℕ) (text : List ℕ) (script other : Script) → IsScrip
 have_same images text script other accepted is have =
     subst (λ (x : Script). HaveImages images (leaves_of x.tops)) (one_script text script other accepted is) have
 
-run_complete : {told : List ℕ → Type 0} {show : Show} {names : List (List ℕ)} {old_sink new_sink : SinkSeen} {old new : ShelfSeen} {old_journal journal : Journal} {code : ℕ}
-    → RunEnds told show names old_sink new_sink old new old_journal journal code → (text : List ℕ) (script : Script) (images : Images) → told text
+run_complete : {told : List ℕ → Type 0} {mode : RunMode} {names : List (List ℕ)} {old_sink new_sink : SinkSeen} {old new : ShelfSeen} {old_journal journal : Journal} {code : ℕ}
+    → RunEnds told mode names old_sink new_sink old new old_journal journal code → (text : List ℕ) (script : Script) (images : Images) → told text
     → IsScriptOf text script → old.tells → TellEach old.image names images → AllByRecursion HasLawfulSize (map (length {A = ℕ}) images)
     → HaveImages (length images) (leaves_of script.tops) → ¬ Rose old_sink.faults new_sink.faults → ¬ Rose old.faults new.faults → ¬ Rose old.disk_faults new.disk_faults
     → IsEnding code ⊎ (code ≡ 8)
@@ -170,6 +173,10 @@ command_complete (Run workers picks show names) old_source new_source old_sink n
     absurd (p unread.1.rose)
 command_complete (Run workers picks show names) old_source new_source old_sink new_sink old new old_journal journal code (inr ends) text script images r told accepted tells each lawful have p s f d =
     run_complete ends text script images told accepted tells each lawful have s f d
+command_complete (Scrub picks names) old_source new_source old_sink new_sink old new old_journal journal code (inl unread) text script images r told accepted tells each lawful have p s f d =
+    absurd (p unread.1.rose)
+command_complete (Scrub picks names) old_source new_source old_sink new_sink old new old_journal journal code (inr ends) text script images r told accepted tells each lawful have p s f d =
+    run_complete ends text script images told accepted tells each lawful have s f d
 command_complete (Gen seed n) old_source new_source old_sink new_sink old new old_journal journal code ends text script images r told accepted tells each lawful have p s f d =
     absurd told
 command_complete (Load seed n names) old_source new_source old_sink new_sink old new old_journal journal code (other, is, ends) text script images r told accepted tells each lawful have p s f d =
@@ -183,6 +190,8 @@ pub command_never : (command : Command) (old_source new_source : SourceSeen) (ol
     → CommandEnds command old_source new_source old_sink new_sink old new old_journal journal code → code ≡ 1 → ⊥
 command_never (Run workers picks show names) old_source new_source old_sink new_sink old new old_journal journal code (inl unread) one = let five = unread.0 in omega arith
 command_never (Run workers picks show names) old_source new_source old_sink new_sink old new old_journal journal code (inr ends) one = run_never ends 1 one (inl refl)
+command_never (Scrub picks names) old_source new_source old_sink new_sink old new old_journal journal code (inl unread) one = let five = unread.0 in omega arith
+command_never (Scrub picks names) old_source new_source old_sink new_sink old new old_journal journal code (inr ends) one = run_never ends 1 one (inl refl)
 command_never (Gen seed n) old_source new_source old_sink new_sink old new old_journal journal code ends one = elim ends.codes_are [
   | inl e ↦ omega arith
   | inr (inl e) ↦ omega arith
@@ -196,6 +205,7 @@ pub command_wanting : ((seed n : ℕ) → seed < 2 ^ 32 → 1 ≤ n → n ≤ BL
     → IsCommandOf serial words command
     → CommandEnds command source source sink sink shelf shelf journal journal 8
 command_wanting scripts serial words (Run workers picks show names) source sink shelf journal is = inr (Wanting refl (wanting sink shelf journal))
+command_wanting scripts serial words (Scrub picks names) source sink shelf journal is = inr (Wanting refl (wanting sink shelf journal))
 command_wanting scripts serial words (Gen seed n) source sink shelf journal is = record {
   codes_are = inr (inr refl);
   written = λ e. absurd (omega arith);
@@ -211,8 +221,8 @@ command_wanting scripts serial words (Load seed n names) source sink shelf journ
 
 -- ---- all codes
 
-script_code : {show : Show} {script : Script} {names : List (List ℕ)} {old_sink new_sink : SinkSeen} {old new : ShelfSeen} {old_journal journal : Journal} {code : ℕ}
-    → ScriptEnds show script names old_sink new_sink old new old_journal journal code → IsSerialCode code
+script_code : {mode : RunMode} {script : Script} {names : List (List ℕ)} {old_sink new_sink : SinkSeen} {old new : ShelfSeen} {old_journal journal : Journal} {code : ℕ}
+    → ScriptEnds mode script names old_sink new_sink old new old_journal journal code → IsSerialCode code
 script_code (Ran e ran) = inl e
 script_code (CutShort Device c cut) = inr (inr (inr (inr (inr (inr (inl c))))))
 script_code (CutShort Sink c cut) = inr (inr (inr (inr (inr (inl c)))))
@@ -221,8 +231,8 @@ script_code (NoImage c was) = inr (inr (inr (inl c)))
 script_code (NoImageCut leaf c cause cut) = inr (inr (inr (inr (inr (inl c)))))
 script_code (WantingFirst c was) = inr (inr (inr (inr (inr (inr (inr c))))))
 
-run_code : {told : List ℕ → Type 0} {show : Show} {names : List (List ℕ)} {old_sink new_sink : SinkSeen} {old new : ShelfSeen} {old_journal journal : Journal} {code : ℕ}
-    → RunEnds told show names old_sink new_sink old new old_journal journal code → IsSerialCode code
+run_code : {told : List ℕ → Type 0} {mode : RunMode} {names : List (List ℕ)} {old_sink new_sink : SinkSeen} {old new : ShelfSeen} {old_journal journal : Journal} {code : ℕ}
+    → RunEnds told mode names old_sink new_sink old new old_journal journal code → IsSerialCode code
 run_code (AsScript script is ends) = script_code ends
 run_code (Refused c was) = inr (inr (inl c))
 run_code (RefusedCut fault c is cut) = inr (inr (inr (inr (inr (inl c)))))
@@ -232,6 +242,8 @@ pub command_code : (command : Command) (old_source new_source : SourceSeen) (old
     → CommandEnds command old_source new_source old_sink new_sink old new old_journal journal code → IsSerialCode code
 command_code (Run workers picks show names) old_source new_source old_sink new_sink old new old_journal journal code (inl unread) = inr (inr (inr (inr (inl unread.0))))
 command_code (Run workers picks show names) old_source new_source old_sink new_sink old new old_journal journal code (inr ends) = run_code ends
+command_code (Scrub picks names) old_source new_source old_sink new_sink old new old_journal journal code (inl unread) = inr (inr (inr (inr (inl unread.0))))
+command_code (Scrub picks names) old_source new_source old_sink new_sink old new old_journal journal code (inr ends) = run_code ends
 command_code (Gen seed n) old_source new_source old_sink new_sink old new old_journal journal code ends = elim ends.codes_are [
   | inl done ↦ inl (inl done)
   | inr (inl six) ↦ inr (inr (inr (inr (inr (inl six)))))
@@ -249,6 +261,9 @@ pub command_steady : (command : Command) (old_source new_source : SourceSeen) (o
 command_steady (Run workers picks show names) old_source new_source old_sink new_sink old new old_journal journal code ends e still =
     let ran = (command_ended (Run workers picks show names) old_source new_source old_sink new_sink old new old_journal journal code ends refl e).2 in
     (ran.sink_steady, ran.fit.measured.steady, ran.disks_steady)
+command_steady (Scrub picks names) old_source new_source old_sink new_sink old new old_journal journal code ends e still =
+    let ran = (command_ended (Scrub picks names) old_source new_source old_sink new_sink old new old_journal journal code ends refl e).2 in
+    (ran.sink_steady, ran.fit.measured.steady, ran.disks_steady)
 command_steady (Gen seed n) old_source new_source old_sink new_sink old new old_journal journal code ends e still =
     let stayed = still refl in
     elim ends.codes_are [
@@ -265,6 +280,8 @@ pub first_name : (command : Command) (sound : List ℕ → Type 0) → IsLawfulC
     → (name : List ℕ) × sound name
 first_name (Run workers picks show []) sound lawful r all = absurd (lawful.some refl)
 first_name (Run workers picks show (name ∷ names)) sound lawful r all = (name, all.0)
+first_name (Scrub picks []) sound lawful r all = absurd (lawful.some refl)
+first_name (Scrub picks (name ∷ names)) sound lawful r all = (name, all.0)
 first_name (Gen seed n) sound lawful r all = let no : false ≡ true = r in cc
 first_name (Load seed n []) sound lawful r all = absurd (lawful.1.some refl)
 first_name (Load seed n (name ∷ names)) sound lawful r all = (name, all.0)

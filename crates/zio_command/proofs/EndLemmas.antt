@@ -8,8 +8,8 @@ use Rattle.zio_gang.specs.declared.ending.Ending.{Ending}
 use Rattle.zio_gang.specs.declared.ending.Ending.TheVariants.{Complete, Panic, Left}
 use Rattle.zio_report.specs.declared.report.RunFault.{RunFault}
 use Rattle.zio_report.specs.declared.report.RunFault.TheVariants.{Device, Sink, Memory}
-use Rattle.zio_report.specs.declared.report.Show.{Show}
 use Rattle.zio_report.specs.Reports.{end_code}
+use Rattle.zio_command.specs.declared.mode.RunMode.{RunMode}
 use Rattle.zio_command.specs.declared.outcome.RunOutcome.TheVariants.{Ended, Unfit, Cut}
 use Rattle.zio_command.specs.Causes.{AreUntouched}
 use Rattle.zio_command.specs.Codes.{CameOut, HasRun, IsFaultTold, IsScriptTold, RunEnds, ScriptEnds}
@@ -49,25 +49,25 @@ cut_is Memory = inr (inr refl)
 
 -- ---- from an outcome to a code
 
-pub ended_ends : (show : Show) (script : Script) (names : List (List ℕ)) (old_sink new_sink : SinkSeen) (old new : ShelfSeen) (old_journal journal : Journal) (ending : Ending) (code : ℕ)
-    → code ≡ end_code ending → CameOut show script names old_sink new_sink old new old_journal journal (Ended ending)
-    → ScriptEnds show script names old_sink new_sink old new old_journal journal code
-ended_ends show script names old_sink new_sink old new old_journal journal ending code is ran =
+pub ended_ends : (mode : RunMode) (script : Script) (names : List (List ℕ)) (old_sink new_sink : SinkSeen) (old new : ShelfSeen) (old_journal journal : Journal) (ending : Ending) (code : ℕ)
+    → code ≡ end_code ending → CameOut mode script names old_sink new_sink old new old_journal journal (Ended ending)
+    → ScriptEnds mode script names old_sink new_sink old new old_journal journal code
+ended_ends mode script names old_sink new_sink old new old_journal journal ending code is ran =
     Ran (subst IsEnding (sym is) (ending_code ending))
-    (subst (λ (n : ℕ). HasRun show script names n old_sink new_sink old new journal) (sym is) ran)
+    (subst (λ (n : ℕ). HasRun mode script names n old_sink new_sink old new journal) (sym is) ran)
 
-pub cut_ends : (show : Show) (script : Script) (names : List (List ℕ)) (old_sink new_sink : SinkSeen) (old new : ShelfSeen) (old_journal journal : Journal) (fault : RunFault) (code : ℕ)
-    → code ≡ cut_code fault → CameOut show script names old_sink new_sink old new old_journal journal (Cut fault)
-    → ScriptEnds show script names old_sink new_sink old new old_journal journal code
-cut_ends show script names old_sink new_sink old new old_journal journal fault code is (inl cut) = CutShort fault is cut
-cut_ends show script names old_sink new_sink old new old_journal journal fault code is (inr (memory, unbegun)) =
+pub cut_ends : (mode : RunMode) (script : Script) (names : List (List ℕ)) (old_sink new_sink : SinkSeen) (old new : ShelfSeen) (old_journal journal : Journal) (fault : RunFault) (code : ℕ)
+    → code ≡ cut_code fault → CameOut mode script names old_sink new_sink old new old_journal journal (Cut fault)
+    → ScriptEnds mode script names old_sink new_sink old new old_journal journal code
+cut_ends mode script names old_sink new_sink old new old_journal journal fault code is (inl cut) = CutShort fault is cut
+cut_ends mode script names old_sink new_sink old new old_journal journal fault code is (inr (memory, unbegun)) =
     WantingFirst (is ∙ (let e : fault ≡ Memory = memory in subst (λ (f : RunFault). cut_code f ≡ 8) (sym e) refl)) unbegun
 
-pub unfit_ends : (show : Show) (script : Script) (names : List (List ℕ)) (old_sink new_sink : SinkSeen) (old new : ShelfSeen) (old_journal journal : Journal) (leaf code : ℕ)
-    → CameOut show script names old_sink new_sink old new old_journal journal (Unfit leaf)
+pub unfit_ends : (mode : RunMode) (script : Script) (names : List (List ℕ)) (old_sink new_sink : SinkSeen) (old new : ShelfSeen) (old_journal journal : Journal) (leaf code : ℕ)
+    → CameOut mode script names old_sink new_sink old new old_journal journal (Unfit leaf)
     → Ends 3 (images_line leaf) code old_sink.faults new_sink.faults old_sink.holds new_sink.holds
-    → ScriptEnds show script names old_sink new_sink old new old_journal journal code
-unfit_ends show script names old_sink new_sink old new old_journal journal leaf code (cause, untouched, unentered) ends = elim ends.codes_are [
+    → ScriptEnds mode script names old_sink new_sink old new old_journal journal code
+unfit_ends mode script names old_sink new_sink old new old_journal journal leaf code (cause, untouched, unentered) ends = elim ends.codes_are [
   | inl three ↦ NoImage three (record {
     leaf = leaf;
     cause = cause;
@@ -85,11 +85,11 @@ unfit_ends show script names old_sink new_sink old new old_journal journal leaf 
   | inr (inr eight) ↦ WantingFirst eight (record { nothing = ends.nothing eight; untouched = untouched; unentered = unentered })
 ]
 
-pub refused_ends : (told : List ℕ → Type 0) (show : Show) (names : List (List ℕ)) (old_sink new_sink : SinkSeen) (old new : ShelfSeen) (old_journal journal : Journal) (fault : ScriptFault) (code : ℕ)
+pub refused_ends : (told : List ℕ → Type 0) (mode : RunMode) (names : List (List ℕ)) (old_sink new_sink : SinkSeen) (old new : ShelfSeen) (old_journal journal : Journal) (fault : ScriptFault) (code : ℕ)
     → IsFaultTold told fault → AreUntouched old new → journal ≡ old_journal
     → Ends 2 (script_line fault) code old_sink.faults new_sink.faults old_sink.holds new_sink.holds
-    → RunEnds told show names old_sink new_sink old new old_journal journal code
-refused_ends told show names old_sink new_sink old new old_journal journal fault code faulty untouched unentered ends = elim ends.codes_are [
+    → RunEnds told mode names old_sink new_sink old new old_journal journal code
+refused_ends told mode names old_sink new_sink old new old_journal journal fault code faulty untouched unentered ends = elim ends.codes_are [
   | inl two ↦ Refused two (record {
     fault = fault;
     faulty = faulty;
@@ -108,11 +108,11 @@ refused_ends told show names old_sink new_sink old new old_journal journal fault
 ]
 
 -- the same of other texts, which are read as those
-pub ends_retold : (told other : List ℕ → Type 0) (show : Show) (names : List (List ℕ)) (old_sink new_sink : SinkSeen) (old new : ShelfSeen) (old_journal journal : Journal) (code : ℕ)
+pub ends_retold : (told other : List ℕ → Type 0) (mode : RunMode) (names : List (List ℕ)) (old_sink new_sink : SinkSeen) (old new : ShelfSeen) (old_journal journal : Journal) (code : ℕ)
     → ((script : Script) → IsScriptTold told script → IsScriptTold other script) → ((fault : ScriptFault) → IsFaultTold told fault → IsFaultTold other fault)
-    → RunEnds told show names old_sink new_sink old new old_journal journal code → RunEnds other show names old_sink new_sink old new old_journal journal code
-ends_retold told other show names old_sink new_sink old new old_journal journal code scripts faults (AsScript script is ends) = AsScript script (scripts script is) ends
-ends_retold told other show names old_sink new_sink old new old_journal journal code scripts faults (Refused two was) = Refused two (record {
+    → RunEnds told mode names old_sink new_sink old new old_journal journal code → RunEnds other mode names old_sink new_sink old new old_journal journal code
+ends_retold told other mode names old_sink new_sink old new old_journal journal code scripts faults (AsScript script is ends) = AsScript script (scripts script is) ends
+ends_retold told other mode names old_sink new_sink old new old_journal journal code scripts faults (Refused two was) = Refused two (record {
   fault = was.fault;
   faulty = faults was.fault was.faulty;
   written = was.written;
@@ -120,17 +120,17 @@ ends_retold told other show names old_sink new_sink old new old_journal journal 
   untouched = was.untouched;
   unentered = was.unentered;
 })
-ends_retold told other show names old_sink new_sink old new old_journal journal code scripts faults (RefusedCut fault six is cut) = RefusedCut fault six (faults fault is) cut
-ends_retold told other show names old_sink new_sink old new old_journal journal code scripts faults (Wanting eight was) = Wanting eight was
+ends_retold told other mode names old_sink new_sink old new old_journal journal code scripts faults (RefusedCut fault six is cut) = RefusedCut fault six (faults fault is) cut
+ends_retold told other mode names old_sink new_sink old new old_journal journal code scripts faults (Wanting eight was) = Wanting eight was
 
 -- of a text that is known to be a script, as the script's run does
-pub known_ends : (text : List ℕ) (show : Show) (script : Script) (names : List (List ℕ)) (old_sink new_sink : SinkSeen) (old new : ShelfSeen) (old_journal journal : Journal) (code : ℕ)
-    → IsScriptOf text script → RunEnds (λ told. told ≡ text) show names old_sink new_sink old new old_journal journal code
-    → ScriptEnds show script names old_sink new_sink old new old_journal journal code
-known_ends text show script names old_sink new_sink old new old_journal journal code accepted (AsScript other is ends) =
-    subst (λ (x : Script). ScriptEnds show x names old_sink new_sink old new old_journal journal code) (one_script text other script (is text refl) accepted) ends
-known_ends text show script names old_sink new_sink old new old_journal journal code accepted (Refused two was) =
+pub known_ends : (text : List ℕ) (mode : RunMode) (script : Script) (names : List (List ℕ)) (old_sink new_sink : SinkSeen) (old new : ShelfSeen) (old_journal journal : Journal) (code : ℕ)
+    → IsScriptOf text script → RunEnds (λ told. told ≡ text) mode names old_sink new_sink old new old_journal journal code
+    → ScriptEnds mode script names old_sink new_sink old new old_journal journal code
+known_ends text mode script names old_sink new_sink old new old_journal journal code accepted (AsScript other is ends) =
+    subst (λ (x : Script). ScriptEnds mode x names old_sink new_sink old new old_journal journal code) (one_script text other script (is text refl) accepted) ends
+known_ends text mode script names old_sink new_sink old new old_journal journal code accepted (Refused two was) =
     absurd (no_script text script was.fault accepted (was.faulty text refl))
-known_ends text show script names old_sink new_sink old new old_journal journal code accepted (RefusedCut fault six is cut) =
+known_ends text mode script names old_sink new_sink old new old_journal journal code accepted (RefusedCut fault six is cut) =
     absurd (no_script text script fault accepted (is text refl))
-known_ends text show script names old_sink new_sink old new old_journal journal code accepted (Wanting eight was) = WantingFirst eight was
+known_ends text mode script names old_sink new_sink old new old_journal journal code accepted (Wanting eight was) = WantingFirst eight was

@@ -1,5 +1,5 @@
 -- The setting of a script's run over disks of lawful sizes, and how the run came out.
-use Rattle.std.proofs.Common.{◌≡◌, ◌≤◌, ◌^◌, ℕ, List, [], ◌∷◌, true, Result, Ok, Err, inl, length, map, refl, replicate, sym, ap, ◌∙◌, subst, arith, IsTrue, MatchResult}
+use Rattle.std.proofs.Common.{◌≡◌, ◌≤◌, ℕ, List, [], ◌∷◌, true, Result, Ok, Err, inl, length, map, refl, replicate, sym, ap, ◌∙◌, subst, arith, IsTrue, MatchResult}
 use Rattle.std.proofs.lemmas.Bool.{and_parts}
 use Rattle.std.proofs.lemmas.List.{length-replicate}
 use Rattle.std.specs.List.{AllByRecursion, list_all}
@@ -37,10 +37,10 @@ lawful_each (top ∷ tops) all =
     (parts.0, lawful_each tops parts.1)
 
 -- images of any sizes
-abbrev images_of : List ℕ → Images
+abbrev pub images_of : List ℕ → Images
 images_of sizes = map (λ n. replicate n 0) sizes
 
-images_sized : (sizes : List ℕ) → map (length {A = ℕ}) (images_of sizes) ≡ sizes
+pub images_sized : (sizes : List ℕ) → map (length {A = ℕ}) (images_of sizes) ≡ sizes
 images_sized [] = refl
 images_sized (size ∷ sizes) =
     ap (λ (n : ℕ). n ∷ map (length {A = ℕ}) (images_of sizes)) (length-replicate size 0) ∙ ap (λ (ns : List ℕ). size ∷ ns) (images_sized sizes)

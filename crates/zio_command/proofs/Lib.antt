@@ -14,6 +14,7 @@ pub mod PoolLemmas
 pub mod ReadLemmas
 pub mod RoundsLemmas
 pub mod ScriptLemmas
+pub mod ScrubLemmas
 pub mod ShelfLemmas
 pub mod TopLemmas
 pub mod TripLemmas

@@ -13,9 +13,11 @@ use Rattle.zio_disks.specs.Disks.{Tell}
 use Rattle.zio_report.specs.declared.report.RunFault.{RunFault}
 use Rattle.zio_report.specs.declared.report.RunFault.TheVariants.{Device, Sink, Memory}
 use Rattle.zio_report.specs.declared.report.Show.{Show}
-use Rattle.zio_report.specs.Meanings.{IsWholeRun, tops_of}
+use Rattle.zio_report.specs.Meanings.{IsWholeRun, course_of, tops_of}
 use Rattle.zio_report.specs.Reports.{RunSize}
 use Rattle.zio_course.specs.SoFar.{IsCut, IsCutText, IsFullText}
+use Rattle.zio_suspend.specs.declared.run.PoolEnd.{PoolEnd}
+use Rattle.zio_suspend.specs.Pools.{AreBoundIn}
 use Rattle.zio_command.specs.Grounds.{HasRunOver, IsCauseOver, WasCutOver}
 use Rattle.zio_command.specs.Seen.{SinkSeen, stopping_plainly}
 
@@ -92,3 +94,41 @@ rounds_cut faults image show script tops stopped old new old_sink new_sink journ
         written = w.6;
       });
 }
+
+-- ---- the same of a run that gives the blocks that are bound
+
+pub pool_whole : {D : Type 0} (faults : D → ℕ) (image : D → List ℕ → Type 0) (show : Show) (script : Script) (old new : List D) (old_sink new_sink : SinkSeen) (journal : Journal) (images : ℕ)
+    (ended : Result PoolEnd RunFault) → length old ≡ images
+    → IfOk ended (λ end. (before : Images) → Tell image old before → (after : Images) × (printed : List ℕ)
+    × IsWholeRun show (size_with script images) script before journal after printed end.ending
+    × AreBoundIn (course_of script before journal).state end.point end.bound × Tell image new after × Appends old_sink.holds new_sink.holds printed)
+    → OnOk ended (map faults new ≡ map faults old) → OnOk ended (new_sink.faults ≡ old_sink.faults)
+    → IfOk ended (λ end. HasRunOver faults image show script end.ending old new old_sink new_sink journal)
+pool_whole faults image show script old new old_sink new_sink journal images (Ok end) count told steady quiet =
+    rounds_whole faults image show script old new old_sink new_sink journal images (Ok end.ending) count
+    (λ before tells. let w = told before tells in (w.0, w.1, w.2, w.4, w.5)) steady quiet
+pool_whole faults image show script old new old_sink new_sink journal images (Err fault) count told steady quiet = tt
+
+pub pool_bound : {D : Type 0} (image : D → List ℕ → Type 0) (show : Show) (script : Script) (old new : List D) (old_sink new_sink : SinkSeen) (journal : Journal) (images : ℕ)
+    (ended : Result PoolEnd RunFault)
+    → IfOk ended (λ end. (before : Images) → Tell image old before → (after : Images) × (printed : List ℕ)
+    × IsWholeRun show (size_with script images) script before journal after printed end.ending
+    × AreBoundIn (course_of script before journal).state end.point end.bound × Tell image new after × Appends old_sink.holds new_sink.holds printed)
+    → IfOk ended (λ end. (before : Images) → Tell image old before → AreBoundIn (course_of script before journal).state end.point end.bound)
+pool_bound image show script old new old_sink new_sink journal images (Ok end) told = λ before tells. (told before tells).3
+pool_bound image show script old new old_sink new_sink journal images (Err fault) told = tt
+
+err_same : (a b : RunFault) → IsErrOf {T = Ending} {E = RunFault} (Err a) b → IsErrOf {T = PoolEnd} {E = RunFault} (Err a) b
+err_same a b e = let same : a ≡ b = cc in ap (λ (x : RunFault). Err x) same
+
+pub pool_cut : {D : Type 0} (faults : D → ℕ) (image : D → List ℕ → Type 0) (show : Show) (script : Script) (tops : List Top) (stopped : Bool) (old new : List D) (old_sink new_sink : SinkSeen) (journal : Journal) (images : ℕ)
+    (ended : Result PoolEnd RunFault) → length old ≡ images → ((before : Images) → Tell image old before → tops ≡ tops_of script before)
+    → IfErr ended (λ fault. (before : Images) → Tell image old before → (after : Images) × (text : List ℕ) × (full : List ℕ)
+    × IsCut show (size_with script images) script before tops (stopping_plainly stopped) fault journal after text × IsFullText fault show (size_with script images) script before journal text full
+    × Tell image new after × IsCutText fault old_sink.holds new_sink.holds [] full)
+    → (IsErrOf ended Device → AnyRose (map faults old) (map faults new)) → (IsErrOf ended Sink → Rose old_sink.faults new_sink.faults)
+    → IfErr ended (λ fault. WasCutOver faults image show script fault old new old_sink new_sink journal)
+pool_cut faults image show script tops stopped old new old_sink new_sink journal images (Ok end) count known told device sink = tt
+pool_cut faults image show script tops stopped old new old_sink new_sink journal images (Err fault) count known told device sink =
+    rounds_cut faults image show script tops stopped old new old_sink new_sink journal images (Err fault) count known told
+    (λ e. device (err_same fault Device e)) (λ e. sink (err_same fault Sink e))

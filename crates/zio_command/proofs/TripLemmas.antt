@@ -1,5 +1,5 @@
 -- Disks that were fetched from their shelf, were used, and came home.
-use Rattle.std.proofs.Common.{◌≡◌, ◌<◌, ℕ, List, [], ◌∷◌, inl, inr, length, map, refl, sym, ap, ◌∙◌, subst, arith}
+use Rattle.std.proofs.Common.{◌≡◌, ◌<◌, ℕ, List, [], ◌∷◌, Bool, true, false, inl, inr, length, map, refl, sym, ap, ◌∙◌, subst, arith}
 use Rattle.std.proofs.lemmas.List.{length-map}
 use Rattle.std.specs.List.{AllByRecursion}
 use Rattle.zio_types.specs.declared.journal.Journal.{Journal}
@@ -13,13 +13,15 @@ use Rattle.zio_report.specs.declared.report.RunFault.TheVariants.{Device, Sink, 
 use Rattle.zio_report.specs.declared.report.Show.{Show}
 use Rattle.zio_report.specs.Meanings.{IsMeaning, IsWholeRun, run_size_of}
 use Rattle.zio_report.specs.Reports.{end_code}
+use Rattle.zio_command.specs.declared.mode.RunMode.{RunMode}
 use Rattle.zio_command.specs.declared.outcome.RunOutcome.{RunOutcome}
 use Rattle.zio_command.specs.declared.outcome.RunOutcome.TheVariants.{Ended, Unfit, Cut}
-use Rattle.zio_command.specs.Causes.{AreMeasured, AreUntouched}
-use Rattle.zio_command.specs.Codes.{CameOut, IsCauseOf}
-use Rattle.zio_command.specs.Grounds.{CameOutOver, IsCauseOver}
-use Rattle.zio_command.specs.Headline.{TellEach}
+use Rattle.zio_command.specs.Causes.{AreFit, AreMeasured, AreUntouched}
+use Rattle.zio_command.specs.Codes.{CameOut, CutHeadline, CutIf, IsCauseOf}
+use Rattle.zio_command.specs.Grounds.{CameOutIf, HasRunOver, HasScrubbedOver, IsCauseOver, IsUnbegun, WasCutOver, WasStoppedOver}
+use Rattle.zio_command.specs.Headline.{Headline, HeadlineIf, ScrubHeadline, TellEach}
 use Rattle.zio_command.specs.Outcomes.{HasLawfulSize, counted_times}
+use Rattle.zio_command.specs.Scrubbed.{IsStoppedScrub}
 use Rattle.zio_command.specs.Seen.{ShelfSeen, SinkSeen}
 use Rattle.zio_command.specs.Shelves.{AreAt, AreFetched, AreFresh, AreOut, ComeHome, KeepOthers}
 use Rattle.zio_command.specs.Tops.{HaveImages, IsFirstMissing, leaves_of}
@@ -212,29 +214,17 @@ cause_of old_sink new_sink t Device cause = trip_rose t cause
 cause_of old_sink new_sink t Sink cause = cause
 cause_of old_sink new_sink t Memory cause = tt
 
--- what a run over the disks came out as is what it comes out as over their shelf
-pub came_out : {D : Type 0} {bytes faults faults_at_fetch : D → ℕ} {home image : D → List ℕ → Type 0} {sound : D → Type 0} {names : List (List ℕ)} {disks used : List D} {old mid new : ShelfSeen}
-    → (show : Show) (script : Script) (old_sink new_sink : SinkSeen) (old_journal journal : Journal)
+-- the disks fit the script, where each of its leaves has one of them
+trip_fit : {D : Type 0} {bytes faults faults_at_fetch : D → ℕ} {home image : D → List ℕ → Type 0} {sound : D → Type 0} {names : List (List ℕ)} {disks used : List D} {old mid new : ShelfSeen}
+    → (script : Script) → Trip bytes faults faults_at_fetch home image sound names disks used old mid new → HaveImages (length disks) (leaves_of script.tops) → AreFit script names old new
+trip_fit script t have = record { measured = trip_measured t; leaves = subst (λ (n : ℕ). HaveImages n (leaves_of script.tops)) t.all have }
+
+unfit_out : {D : Type 0} {bytes faults faults_at_fetch : D → ℕ} {home image : D → List ℕ → Type 0} {sound : D → Type 0} {names : List (List ℕ)} {disks used : List D} {old mid new : ShelfSeen}
+    → (mode : RunMode) (script : Script) (old_sink new_sink : SinkSeen) (old_journal journal : Journal)
     → Trip bytes faults faults_at_fetch home image sound names disks used old mid new
-    → (outcome : RunOutcome) → CameOutOver faults image show script disks used old_sink new_sink old_journal journal outcome
-    → CameOut show script names old_sink new_sink old new old_journal journal outcome
-came_out show script old_sink new_sink old_journal journal t (Ended ending) over =
-    let ran = over.1 in
-    record {
-      fit = record { measured = trip_measured t; leaves = subst (λ (n : ℕ). HaveImages n (leaves_of script.tops)) t.all over.0 };
-      sink_steady = ran.sink_steady;
-      disks_steady = trip_steady t ran.disks_steady;
-      headline = λ images tells each.
-          (let w = ran.told images (trip_told t images tells each) in
-          record {
-            after = w.after;
-            printed = w.printed;
-            meaning = whole_meaning show script images journal w.after w.printed ending w.whole;
-            stored = (trip_back t tells w.after w.stored).told;
-            written = w.written;
-          });
-    }
-came_out show script old_sink new_sink old_journal journal t (Unfit leaf) over = (
+    → (leaf : ℕ) → IsFirstMissing (length disks) (leaves_of script.tops) leaf × (used ≡ disks) × (journal ≡ old_journal)
+    → CameOut mode script names old_sink new_sink old new old_journal journal (Unfit leaf)
+unfit_out mode script old_sink new_sink old_journal journal t leaf over = (
   inr (inr (record {
     measured = trip_measured t;
     first = subst (λ (n : ℕ). IsFirstMissing n (leaves_of script.tops) leaf) t.all over.0;
@@ -242,23 +232,147 @@ came_out show script old_sink new_sink old_journal journal t (Unfit leaf) over =
   trip_untouched t over.1,
   over.2,
 )
-came_out show script old_sink new_sink old_journal journal t (Cut fault) (inl over) =
-    let cut = over.1 in
+
+unbegun_out : {D : Type 0} {bytes faults faults_at_fetch : D → ℕ} {home image : D → List ℕ → Type 0} {sound : D → Type 0} {names : List (List ℕ)} {disks used : List D} {old mid new : ShelfSeen}
+    → (mode : RunMode) (script : Script) (old_sink new_sink : SinkSeen) (old_journal journal : Journal)
+    → Trip bytes faults faults_at_fetch home image sound names disks used old mid new
+    → (fault : RunFault) → IsUnbegun fault disks used old_sink new_sink old_journal journal
+    → CameOut mode script names old_sink new_sink old new old_journal journal (Cut fault)
+unbegun_out mode script old_sink new_sink old_journal journal t fault over =
+    inr (over.0, record { nothing = over.2; untouched = trip_untouched t over.1; unentered = over.3 })
+
+-- the headline of a run, and of one with a scrub behind it
+ran_out : {D : Type 0} {bytes faults faults_at_fetch : D → ℕ} {home image : D → List ℕ → Type 0} {sound : D → Type 0} {names : List (List ℕ)} {disks used : List D} {old mid new : ShelfSeen}
+    → (show : Show) (script : Script) (ending : Ending) (old_sink new_sink : SinkSeen) (journal : Journal)
+    → Trip bytes faults faults_at_fetch home image sound names disks used old mid new
+    → HasRunOver faults image show script ending disks used old_sink new_sink journal
+    → (images : Images) → old.tells → TellEach old.image names images
+    → Headline show script names images journal new.image old_sink.holds new_sink.holds (end_code ending)
+ran_out show script ending old_sink new_sink journal t ran images tells each =
+    let w = ran.told images (trip_told t images tells each) in
+    record {
+      after = w.after;
+      printed = w.printed;
+      meaning = whole_meaning show script images journal w.after w.printed ending w.whole;
+      stored = (trip_back t tells w.after w.stored).told;
+      written = w.written;
+    }
+
+scrubbed_out : {D : Type 0} {bytes faults faults_at_fetch : D → ℕ} {home image : D → List ℕ → Type 0} {sound : D → Type 0} {names : List (List ℕ)} {disks used : List D} {old mid new : ShelfSeen}
+    → (show : Show) (script : Script) (ending : Ending) (old_sink new_sink : SinkSeen) (journal : Journal)
+    → Trip bytes faults faults_at_fetch home image sound names disks used old mid new
+    → HasScrubbedOver faults image show script ending disks used old_sink new_sink journal
+    → (images : Images) → old.tells → TellEach old.image names images
+    → ScrubHeadline show script names images journal new.image old_sink.holds new_sink.holds (end_code ending)
+scrubbed_out show script ending old_sink new_sink journal t ran images tells each =
+    let w = ran.told images (trip_told t images tells each) in
+    record {
+      end = ending;
+      run = record {
+        ran = w.ran;
+        report = w.report;
+        after = w.after;
+        line = w.line;
+        whole = w.whole;
+        behind = w.behind;
+        stores = (trip_back t tells w.after w.stores).told;
+        written = w.written;
+      };
+      code_is = refl;
+    }
+
+-- the same of a run that was cut short, and of a scrub
+cut_out : {D : Type 0} {bytes faults faults_at_fetch : D → ℕ} {home image : D → List ℕ → Type 0} {sound : D → Type 0} {names : List (List ℕ)} {disks used : List D} {old mid new : ShelfSeen}
+    → (show : Show) (script : Script) (fault : RunFault) (old_sink new_sink : SinkSeen) (journal : Journal)
+    → Trip bytes faults faults_at_fetch home image sound names disks used old mid new
+    → WasCutOver faults image show script fault disks used old_sink new_sink journal
+    → (images : Images) → old.tells → TellEach old.image names images
+    → CutHeadline show script names fault images journal new.image old_sink.holds new_sink.holds
+cut_out show script fault old_sink new_sink journal t cut images tells each =
+    let w = cut.told images (trip_told t images tells each) in
+    record {
+      after = w.after;
+      so_far = w.so_far;
+      full = w.full;
+      stopped = w.stopped;
+      cut = w.cut;
+      due = w.due;
+      stored = (trip_back t tells w.after w.stored).told;
+      written = w.written;
+    }
+
+stopped_out : {D : Type 0} {bytes faults faults_at_fetch : D → ℕ} {home image : D → List ℕ → Type 0} {sound : D → Type 0} {names : List (List ℕ)} {disks used : List D} {old mid new : ShelfSeen}
+    → (show : Show) (script : Script) (fault : RunFault) (old_sink new_sink : SinkSeen) (journal : Journal)
+    → Trip bytes faults faults_at_fetch home image sound names disks used old mid new
+    → WasStoppedOver faults image show script fault disks used old_sink new_sink journal
+    → (images : Images) → old.tells → TellEach old.image names images
+    → IsStoppedScrub (TellEach new.image names) show script fault old_sink.holds new_sink.holds journal images
+stopped_out show script fault old_sink new_sink journal t cut images tells each =
+    let w = cut.told images (trip_told t images tells each) in
+    record {
+      ending = w.ending;
+      ran = w.ran;
+      report = w.report;
+      after = w.after;
+      blocks = w.blocks;
+      whole = w.whole;
+      no_panic = w.no_panic;
+      bound = w.bound;
+      images = w.images;
+      stores = (trip_back t tells w.after w.stores).told;
+      written = w.written;
+    }
+
+-- what a run over the disks came out as is what it comes out as over their shelf
+pub came_out : {D : Type 0} {bytes faults faults_at_fetch : D → ℕ} {home image : D → List ℕ → Type 0} {sound : D → Type 0} {names : List (List ℕ)} {disks used : List D} {old mid new : ShelfSeen}
+    → (mode : RunMode) (script : Script) (old_sink new_sink : SinkSeen) (old_journal journal : Journal)
+    → Trip bytes faults faults_at_fetch home image sound names disks used old mid new
+    → (outcome : RunOutcome) (scrubs : Bool) → mode.scrubs ≡ scrubs
+    → CameOutIf scrubs faults image mode.show script disks used old_sink new_sink old_journal journal outcome
+    → CameOut mode script names old_sink new_sink old new old_journal journal outcome
+came_out {names = names} {new = new} mode script old_sink new_sink old_journal journal t (Ended ending) false is over =
+    record {
+      fit = trip_fit script t over.0;
+      sink_steady = over.1.sink_steady;
+      disks_steady = trip_steady t over.1.disks_steady;
+      headline = λ images tells each.
+          subst (λ (b : Bool). HeadlineIf b mode.show script names images journal new.image old_sink.holds new_sink.holds (end_code ending)) (sym is)
+          (ran_out mode.show script ending old_sink new_sink journal t over.1 images tells each);
+    }
+came_out {names = names} {new = new} mode script old_sink new_sink old_journal journal t (Ended ending) true is over =
+    record {
+      fit = trip_fit script t over.0;
+      sink_steady = over.1.sink_steady;
+      disks_steady = trip_steady t over.1.disks_steady;
+      headline = λ images tells each.
+          subst (λ (b : Bool). HeadlineIf b mode.show script names images journal new.image old_sink.holds new_sink.holds (end_code ending)) (sym is)
+          (scrubbed_out mode.show script ending old_sink new_sink journal t over.1 images tells each);
+    }
+came_out mode script old_sink new_sink old_journal journal t (Unfit leaf) false is over = unfit_out mode script old_sink new_sink old_journal journal t leaf over
+came_out mode script old_sink new_sink old_journal journal t (Unfit leaf) true is over = unfit_out mode script old_sink new_sink old_journal journal t leaf over
+came_out {names = names} {new = new} mode script old_sink new_sink old_journal journal t (Cut fault) false is (inl over) =
     inl (record {
-      fit = record { measured = trip_measured t; leaves = subst (λ (n : ℕ). HaveImages n (leaves_of script.tops)) t.all over.0 };
+      fit = trip_fit script t over.0;
+      cause = cause_of old_sink new_sink t fault over.1.cause;
+      headline = λ images tells each.
+          subst (λ (b : Bool). CutIf b mode.show script names fault images journal new.image old_sink.holds new_sink.holds) (sym is)
+          (cut_out mode.show script fault old_sink new_sink journal t over.1 images tells each);
+    })
+came_out {names = names} {new = new} mode script old_sink new_sink old_journal journal t (Cut fault) true is (inl (have, inl cut)) =
+    inl (record {
+      fit = trip_fit script t have;
       cause = cause_of old_sink new_sink t fault cut.cause;
       headline = λ images tells each.
-          (let w = cut.told images (trip_told t images tells each) in
-          record {
-            after = w.after;
-            so_far = w.so_far;
-            full = w.full;
-            stopped = w.stopped;
-            cut = w.cut;
-            due = w.due;
-            stored = (trip_back t tells w.after w.stored).told;
-            written = w.written;
-          });
+          subst (λ (b : Bool). CutIf b mode.show script names fault images journal new.image old_sink.holds new_sink.holds) (sym is)
+          (inl (cut_out mode.show script fault old_sink new_sink journal t cut images tells each));
     })
-came_out show script old_sink new_sink old_journal journal t (Cut fault) (inr over) =
-    inr (over.0, record { nothing = over.2; untouched = trip_untouched t over.1; unentered = over.3 })
+came_out {names = names} {new = new} mode script old_sink new_sink old_journal journal t (Cut fault) true is (inl (have, inr cut)) =
+    inl (record {
+      fit = trip_fit script t have;
+      cause = cause_of old_sink new_sink t fault cut.cause;
+      headline = λ images tells each.
+          subst (λ (b : Bool). CutIf b mode.show script names fault images journal new.image old_sink.holds new_sink.holds) (sym is)
+          (inr (stopped_out mode.show script fault old_sink new_sink journal t cut images tells each));
+    })
+came_out mode script old_sink new_sink old_journal journal t (Cut fault) false is (inr over) = unbegun_out mode script old_sink new_sink old_journal journal t fault over
+came_out mode script old_sink new_sink old_journal journal t (Cut fault) true is (inr over) = unbegun_out mode script old_sink new_sink old_journal journal t fault over

@@ -2,7 +2,7 @@
 --
 -- The order of the causes: the words, reading the source, the script's rules, the images one after another, the leaves of
 -- the tops, then the rounds.
-use Rattle.std.specs.Prelude.{◌≡◌, ◌⊎◌, ℕ, List, [], Bool}
+use Rattle.std.specs.Prelude.{◌≡◌, ◌⊎◌, ℕ, List, [], Bool, true, false}
 use Rattle.zio_types.specs.declared.journal.Journal.{Journal}
 use Rattle.zio_outside.specs.Outside.{Appends, AppendsFront, Keeps, Rose}
 use Rattle.zio_script.specs.declared.script.Script.{Script}
@@ -15,23 +15,25 @@ use Rattle.zio_report.specs.declared.report.Show.{Show}
 use Rattle.zio_report.specs.Meanings.{run_size_of, tops_of}
 use Rattle.zio_report.specs.Reports.{end_code}
 use Rattle.zio_course.specs.SoFar.{IsCut, IsCutText, IsFullText}
+use Rattle.zio_command.specs.declared.mode.RunMode.{RunMode}
 use Rattle.zio_command.specs.declared.outcome.RunOutcome.{RunOutcome}
 use Rattle.zio_command.specs.declared.outcome.RunOutcome.TheVariants.{Ended, Unfit, Cut}
 use Rattle.zio_command.specs.Causes.{AreFit, AreUntouched, IsLeafCause}
-use Rattle.zio_command.specs.Headline.{Headline, TellEach}
+use Rattle.zio_command.specs.Headline.{HeadlineOf, TellEach}
 use Rattle.zio_command.specs.Outcomes.{IsEnding, cut_code, images_line, script_line}
+use Rattle.zio_command.specs.Scrubbed.{IsStoppedScrub}
 use Rattle.zio_command.specs.Seen.{ShelfSeen, SinkSeen, stopping_plainly}
 
 -- ---- a run to its end
 
--- The script was run to its end or to a panic, and no count of faults rose: the headline, for all images that the shelf
--- tells.
-pub record HasRun (show : Show) (script : Script) (names : List (List ℕ)) (code : ℕ) (old_sink new_sink : SinkSeen) (old new : ShelfSeen) (journal : Journal) : Type 0 where
+-- The script was run to its end or to a panic, and scrubbed behind it where that is asked for, and no count of faults rose:
+-- the headline, for all images that the shelf tells.
+pub record HasRun (mode : RunMode) (script : Script) (names : List (List ℕ)) (code : ℕ) (old_sink new_sink : SinkSeen) (old new : ShelfSeen) (journal : Journal) : Type 0 where
   pub fit : AreFit script names old new
   pub sink_steady : new_sink.faults ≡ old_sink.faults
   pub disks_steady : new.disk_faults ≡ old.disk_faults
   pub headline : (images : Images) → old.tells → TellEach old.image names images →
-      Headline show script names images journal new.image old_sink.holds new_sink.holds code
+      HeadlineOf mode script names images journal new.image old_sink.holds new_sink.holds code
 
 -- ---- a run that was cut short
 
@@ -48,18 +50,27 @@ pub record CutHeadline (show : Show) (script : Script) (names : List (List ℕ))
   pub stored : TellEach image names after
   pub written : IsCutText fault old new [] full
 
+-- where the pool is scrubbed, it may be the scrub that was cut short
+abbrev pub CutIf : Bool → Show → Script → List (List ℕ) → RunFault → Images → Journal → (List ℕ → List ℕ → Type 0) → (List ℕ → Type 0) → (List ℕ → Type 0) → Type 0
+CutIf false show script names fault before journal image old new = CutHeadline show script names fault before journal image old new
+CutIf true show script names fault before journal image old new =
+    CutHeadline show script names fault before journal image old new ⊎ IsStoppedScrub (TellEach image names) show script fault old new journal before
+
+abbrev pub CutHeadlineOf : RunMode → Script → List (List ℕ) → RunFault → Images → Journal → (List ℕ → List ℕ → Type 0) → (List ℕ → Type 0) → (List ℕ → Type 0) → Type 0
+CutHeadlineOf mode script names fault before journal image old new = CutIf mode.scrubs mode.show script names fault before journal image old new
+
 -- the count whose rise is the cause; want of memory has none
 abbrev pub IsCauseOf : RunFault → SinkSeen → SinkSeen → ShelfSeen → ShelfSeen → Type 0
 IsCauseOf Device old_sink new_sink old new = Rose old.disk_faults new.disk_faults
 IsCauseOf Sink old_sink new_sink old new = Rose old_sink.faults new_sink.faults
 IsCauseOf Memory old_sink new_sink old new = Unit {0}
 
--- the rounds were begun, and the run was cut short
-pub record WasCut (show : Show) (script : Script) (names : List (List ℕ)) (fault : RunFault) (old_sink new_sink : SinkSeen) (old new : ShelfSeen) (journal : Journal) : Type 0 where
+-- the rounds were begun, and the run or the scrub behind it was cut short
+pub record WasCut (mode : RunMode) (script : Script) (names : List (List ℕ)) (fault : RunFault) (old_sink new_sink : SinkSeen) (old new : ShelfSeen) (journal : Journal) : Type 0 where
   pub fit : AreFit script names old new
   pub cause : IsCauseOf fault old_sink new_sink old new
   pub headline : (images : Images) → old.tells → TellEach old.image names images →
-      CutHeadline show script names fault images journal new.image old_sink.holds new_sink.holds
+      CutHeadlineOf mode script names fault images journal new.image old_sink.holds new_sink.holds
 
 -- memory was wanting before anything was written or run
 pub record WasUnbegun (old_sink new_sink : SinkSeen) (old new : ShelfSeen) (old_journal journal : Journal) : Type 0 where
@@ -70,13 +81,13 @@ pub record WasUnbegun (old_sink new_sink : SinkSeen) (old new : ShelfSeen) (old_
 -- ---- a run of a script
 
 -- how a run of a script over the images under these names came out
-abbrev pub CameOut : Show → Script → List (List ℕ) → SinkSeen → SinkSeen → ShelfSeen → ShelfSeen → Journal → Journal → RunOutcome → Type 0
-CameOut show script names old_sink new_sink old new old_journal journal (Ended ending) =
-    HasRun show script names (end_code ending) old_sink new_sink old new journal
-CameOut show script names old_sink new_sink old new old_journal journal (Unfit leaf) =
+abbrev pub CameOut : RunMode → Script → List (List ℕ) → SinkSeen → SinkSeen → ShelfSeen → ShelfSeen → Journal → Journal → RunOutcome → Type 0
+CameOut mode script names old_sink new_sink old new old_journal journal (Ended ending) =
+    HasRun mode script names (end_code ending) old_sink new_sink old new journal
+CameOut mode script names old_sink new_sink old new old_journal journal (Unfit leaf) =
     IsLeafCause script names old new leaf × AreUntouched old new × (journal ≡ old_journal)
-CameOut show script names old_sink new_sink old new old_journal journal (Cut fault) =
-    WasCut show script names fault old_sink new_sink old new journal
+CameOut mode script names old_sink new_sink old new old_journal journal (Cut fault) =
+    WasCut mode script names fault old_sink new_sink old new journal
     ⊎ ((fault ≡ Memory) × WasUnbegun old_sink new_sink old new old_journal journal)
 
 -- code 3: a leaf has no image of a lawful size
@@ -98,18 +109,18 @@ pub record LineWasCut (line : List ℕ) (old_sink new_sink : SinkSeen) (old new 
 -- How the call ends for a script, over the images under these names. It ran to its end, with code 0, 4 or 9; it was cut
 -- short by the sink, by a disk or for want of memory, with code 6, 7 or 8; a leaf has no image, with code 3; the sink failed
 -- on the line of that, with code 6; or memory was wanting first.
-pub data ScriptEnds (show : Show) (script : Script) (names : List (List ℕ)) (old_sink new_sink : SinkSeen) (old new : ShelfSeen) (old_journal journal : Journal) (code : ℕ) : Type 0 where
-  Ran : IsEnding code → HasRun show script names code old_sink new_sink old new journal
-      → ScriptEnds show script names old_sink new_sink old new old_journal journal code
-  CutShort : (fault : RunFault) → code ≡ cut_code fault → WasCut show script names fault old_sink new_sink old new journal
-      → ScriptEnds show script names old_sink new_sink old new old_journal journal code
+pub data ScriptEnds (mode : RunMode) (script : Script) (names : List (List ℕ)) (old_sink new_sink : SinkSeen) (old new : ShelfSeen) (old_journal journal : Journal) (code : ℕ) : Type 0 where
+  Ran : IsEnding code → HasRun mode script names code old_sink new_sink old new journal
+      → ScriptEnds mode script names old_sink new_sink old new old_journal journal code
+  CutShort : (fault : RunFault) → code ≡ cut_code fault → WasCut mode script names fault old_sink new_sink old new journal
+      → ScriptEnds mode script names old_sink new_sink old new old_journal journal code
   NoImage : code ≡ 3 → WasUnfit script names old_sink new_sink old new old_journal journal
-      → ScriptEnds show script names old_sink new_sink old new old_journal journal code
+      → ScriptEnds mode script names old_sink new_sink old new old_journal journal code
   NoImageCut : (leaf : ℕ) → code ≡ 6 → IsLeafCause script names old new leaf
       → LineWasCut (images_line leaf) old_sink new_sink old new old_journal journal
-      → ScriptEnds show script names old_sink new_sink old new old_journal journal code
+      → ScriptEnds mode script names old_sink new_sink old new old_journal journal code
   Wanting : code ≡ 8 → WasUnbegun old_sink new_sink old new old_journal journal
-      → ScriptEnds show script names old_sink new_sink old new old_journal journal code
+      → ScriptEnds mode script names old_sink new_sink old new old_journal journal code
 
 -- ---- a run of a text
 
@@ -132,13 +143,13 @@ pub record WasRefused (told : List ℕ → Type 0) (old_sink new_sink : SinkSeen
 
 -- How the call ends for a text, of which this is told: as a script's does; the text is no script, with code 2; the sink failed
 -- on the line of that, with code 6; or memory was wanting first.
-pub data RunEnds (told : List ℕ → Type 0) (show : Show) (names : List (List ℕ)) (old_sink new_sink : SinkSeen) (old new : ShelfSeen) (old_journal journal : Journal) (code : ℕ) : Type 0 where
-  AsScript : (script : Script) → IsScriptTold told script → ScriptEnds show script names old_sink new_sink old new old_journal journal code
-      → RunEnds told show names old_sink new_sink old new old_journal journal code
+pub data RunEnds (told : List ℕ → Type 0) (mode : RunMode) (names : List (List ℕ)) (old_sink new_sink : SinkSeen) (old new : ShelfSeen) (old_journal journal : Journal) (code : ℕ) : Type 0 where
+  AsScript : (script : Script) → IsScriptTold told script → ScriptEnds mode script names old_sink new_sink old new old_journal journal code
+      → RunEnds told mode names old_sink new_sink old new old_journal journal code
   Refused : code ≡ 2 → WasRefused told old_sink new_sink old new old_journal journal
-      → RunEnds told show names old_sink new_sink old new old_journal journal code
+      → RunEnds told mode names old_sink new_sink old new old_journal journal code
   RefusedCut : (fault : ScriptFault) → code ≡ 6 → IsFaultTold told fault
       → LineWasCut (script_line fault) old_sink new_sink old new old_journal journal
-      → RunEnds told show names old_sink new_sink old new old_journal journal code
+      → RunEnds told mode names old_sink new_sink old new old_journal journal code
   Wanting : code ≡ 8 → WasUnbegun old_sink new_sink old new old_journal journal
-      → RunEnds told show names old_sink new_sink old new old_journal journal code
+      → RunEnds told mode names old_sink new_sink old new old_journal journal code

@@ -1,5 +1,5 @@
 -- How a run over disks that are fetched came out.
-use Rattle.std.specs.Prelude.{◌≡◌, ◌⊎◌, ◌≤◌, ℕ, List, [], length, map, Bool}
+use Rattle.std.specs.Prelude.{◌≡◌, ◌⊎◌, ◌≤◌, ℕ, List, [], length, map, Bool, true, false}
 use Rattle.std.specs.List.{AllByRecursion}
 use Rattle.zio_types.specs.declared.journal.Journal.{Journal}
 use Rattle.zio_types.specs.declared.place.Top.{Top}
@@ -21,6 +21,7 @@ use Rattle.zio_blocks.specs.Blocks.{HavePointers}
 use Rattle.zio_command.specs.declared.image.TheConstants.{IMAGE_LEN_MAX}
 use Rattle.zio_command.specs.declared.outcome.RunOutcome.{RunOutcome}
 use Rattle.zio_command.specs.declared.outcome.RunOutcome.TheVariants.{Ended, Unfit, Cut}
+use Rattle.zio_command.specs.Scrubbed.{IsScrubbedRun, IsStoppedScrub}
 use Rattle.zio_command.specs.Seen.{SinkSeen, stopping_plainly}
 use Rattle.zio_command.specs.Tops.{AreTopLeaves, HaveImages, IsFirstMissing, leaves_of}
 
@@ -80,6 +81,11 @@ pub record WasCutOver {D : Type 0} (faults : D → ℕ) (image : D → List ℕ 
   pub cause : IsCauseOver fault (map faults old) (map faults new) old_sink new_sink
   pub told : (before : Images) → Tell image old before → IsCutOver image show script fault old new old_sink new_sink journal before
 
+-- memory was wanting before anything was run or written
+abbrev pub IsUnbegun : {D : Type 0} → RunFault → List D → List D → SinkSeen → SinkSeen → Journal → Journal → Type 0
+IsUnbegun fault old new old_sink new_sink old_journal journal =
+    (fault ≡ Memory) × (new ≡ old) × Keeps old_sink.holds new_sink.holds × (journal ≡ old_journal)
+
 -- how the run came out; where it wasn't begun, nothing has changed
 abbrev pub CameOutOver : {D : Type 0} → (D → ℕ) → (D → List ℕ → Type 0) → Show → Script → List D → List D → SinkSeen → SinkSeen → Journal → Journal → RunOutcome → Type 0
 CameOutOver faults image show script old new old_sink new_sink old_journal journal (Ended ending) =
@@ -88,4 +94,37 @@ CameOutOver faults image show script old new old_sink new_sink old_journal journ
     IsFirstMissing (length old) (leaves_of script.tops) leaf × (new ≡ old) × (journal ≡ old_journal)
 CameOutOver faults image show script old new old_sink new_sink old_journal journal (Cut fault) =
     (HaveImages (length old) (leaves_of script.tops) × WasCutOver faults image show script fault old new old_sink new_sink journal)
-    ⊎ ((fault ≡ Memory) × (new ≡ old) × Keeps old_sink.holds new_sink.holds × (journal ≡ old_journal))
+    ⊎ IsUnbegun fault old new old_sink new_sink old_journal journal
+
+-- ---- a run with a scrub behind it
+
+-- the script was run to its end, its pool was scrubbed but after a panic, and no count rose
+pub record HasScrubbedOver {D : Type 0} (faults : D → ℕ) (image : D → List ℕ → Type 0) (show : Show) (script : Script) (ending : Ending) (old new : List D) (old_sink new_sink : SinkSeen) (journal : Journal) : Type 0 where
+  pub disks_steady : map faults new ≡ map faults old
+  pub sink_steady : new_sink.faults ≡ old_sink.faults
+  pub told : (before : Images) → Tell image old before
+      → IsScrubbedRun (Tell image new) show script ending old_sink.holds new_sink.holds journal before
+
+-- the script was run to its end, and the scrub was cut short
+pub record WasStoppedOver {D : Type 0} (faults : D → ℕ) (image : D → List ℕ → Type 0) (show : Show) (script : Script) (fault : RunFault) (old new : List D) (old_sink new_sink : SinkSeen) (journal : Journal) : Type 0 where
+  pub cause : IsCauseOver fault (map faults old) (map faults new) old_sink new_sink
+  pub told : (before : Images) → Tell image old before
+      → IsStoppedScrub (Tell image new) show script fault old_sink.holds new_sink.holds journal before
+
+-- how a run with a scrub behind it came out
+abbrev pub ScrubCameOutOver : {D : Type 0} → (D → ℕ) → (D → List ℕ → Type 0) → Show → Script → List D → List D → SinkSeen → SinkSeen → Journal → Journal → RunOutcome → Type 0
+ScrubCameOutOver faults image show script old new old_sink new_sink old_journal journal (Ended ending) =
+    HaveImages (length old) (leaves_of script.tops) × HasScrubbedOver faults image show script ending old new old_sink new_sink journal
+ScrubCameOutOver faults image show script old new old_sink new_sink old_journal journal (Unfit leaf) =
+    IsFirstMissing (length old) (leaves_of script.tops) leaf × (new ≡ old) × (journal ≡ old_journal)
+ScrubCameOutOver faults image show script old new old_sink new_sink old_journal journal (Cut fault) =
+    (HaveImages (length old) (leaves_of script.tops)
+    × (WasCutOver faults image show script fault old new old_sink new_sink journal
+    ⊎ WasStoppedOver faults image show script fault old new old_sink new_sink journal))
+    ⊎ IsUnbegun fault old new old_sink new_sink old_journal journal
+
+abbrev pub CameOutIf : Bool → {D : Type 0} → (D → ℕ) → (D → List ℕ → Type 0) → Show → Script → List D → List D → SinkSeen → SinkSeen → Journal → Journal → RunOutcome → Type 0
+CameOutIf false faults image show script old new old_sink new_sink old_journal journal outcome =
+    CameOutOver faults image show script old new old_sink new_sink old_journal journal outcome
+CameOutIf true faults image show script old new old_sink new_sink old_journal journal outcome =
+    ScrubCameOutOver faults image show script old new old_sink new_sink old_journal journal outcome

@@ -1,10 +1,13 @@
+pub mod Behind
 pub mod Causes
 pub mod Codes
 pub mod Commands
 pub mod Grounds
 pub mod Headline
+pub mod Modes
 pub mod Outcomes
 pub mod Parses
+pub mod Scrubbed
 pub mod Seen
 pub mod Shelves
 pub mod Tops

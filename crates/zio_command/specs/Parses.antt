@@ -3,6 +3,9 @@ use Rattle.std.specs.Prelude.{ℕ, List, codes, Some, Bool, true, false}
 use Rattle.clap.specs.declared.builder.action.ArgAction.TheVariants.{Append, SetTrue}
 use Rattle.clap.specs.Walk.{Rule}
 use Rattle.clap.specs.Simple.{App, new_app, new_rule, on_top, with_rule}
+use Rattle.zio_command.specs.declared.options.Options.{Options}
+use Rattle.zio_command.specs.declared.parse.Parsed.{Parsed}
+use Rattle.zio_command.specs.Words.{show_of, workers_of}
 
 abbrev pub flag_rule : List ℕ → Rule
 flag_rule name = record (new_rule name) { long = Some name; action = Some SetTrue }
@@ -26,6 +29,11 @@ run_alone = with_rule (with_rule (with_rule (bare_app (codes "run")) (flag_rule 
 abbrev pub run_app : Bool → App
 run_app true = with_rule run_alone (value_rule (codes "picks"))
 run_app false = with_rule run_alone (value_rule (codes "workers"))
+
+-- what options and images ask for
+abbrev pub parsed_of : Bool → Options → List (List ℕ) → Parsed
+parsed_of serial options names =
+    record { workers = workers_of serial options; picks = options.picks; show = show_of options; images = names }
 
 -- a seed and a number of blocks
 abbrev pub size_app : List ℕ → App

@@ -10,7 +10,7 @@ use Rattle.zio_command.specs.declared.options.Asked.{Asked}
 use Rattle.zio_command.specs.declared.options.Asked.TheVariants.{Journal, Bytes, Picks, Workers}
 use Rattle.zio_command.specs.declared.options.Options.{Options}
 use Rattle.zio_command.specs.declared.words.Command.{Command}
-use Rattle.zio_command.specs.declared.words.Command.TheVariants.{Run, Gen, Load}
+use Rattle.zio_command.specs.declared.words.Command.TheVariants.{Run, Scrub, Gen, Load}
 
 -- ---- numbers, which are spelled in decimal digits without a sign or a leading zero
 
@@ -142,6 +142,11 @@ workers_of serial options = or_usual serial options.workers
 abbrev pub show_of : Options → Show
 show_of options = Report options.journal options.bytes
 
+-- they add nothing to a report
+pub record IsPlain (options : Options) : Type 0 where
+  pub no_journal : options.journal ≡ false
+  pub no_bytes : options.bytes ≡ false
+
 -- ---- commands
 
 -- `run`, options and images
@@ -153,6 +158,16 @@ pub record IsRunOf (serial : Bool) (words : List (List ℕ)) (workers : ℕ) (pi
   pub workers_are : workers ≡ workers_of serial options
   pub picks_are : picks ≡ options.picks
   pub show_is : show ≡ show_of options
+  pub named : AreImages images
+
+-- `scrub`, at most the seed of the picks, and images
+pub record IsScrubOf (words : List (List ℕ)) (picks : Option ℕ) (images : List (List ℕ)) : Type 0 where
+  pub rest : List (List ℕ)
+  pub options : Options
+  pub words_are : words ≡ codes "scrub" ∷ rest
+  pub split : IsSplit true rest options images
+  pub plain : IsPlain options
+  pub picks_are : picks ≡ options.picks
   pub named : AreImages images
 
 -- a seed, a number of blocks, and behind them others
@@ -180,6 +195,7 @@ pub record IsLoadOf (words : List (List ℕ)) (seed n : ℕ) (images : List (Lis
 -- a command of the program on one thread, or of that with workers
 abbrev pub IsCommandOf : Bool → List (List ℕ) → Command → Type 0
 IsCommandOf serial words (Run workers picks show images) = IsRunOf serial words workers picks show images
+IsCommandOf serial words (Scrub picks images) = (serial ≡ true) × IsScrubOf words picks images
 IsCommandOf serial words (Gen seed n) = (serial ≡ true) × IsGenOf words seed n
 IsCommandOf serial words (Load seed n images) = (serial ≡ true) × IsLoadOf words seed n images
 
@@ -189,5 +205,6 @@ IsNoCommandOf serial words = (command : Command) → ¬ IsCommandOf serial words
 -- what its names and numbers are within
 abbrev pub IsLawfulCommand : Command → Type 0
 IsLawfulCommand (Run workers picks show images) = AreImages images
+IsLawfulCommand (Scrub picks images) = AreImages images
 IsLawfulCommand (Gen seed n) = IsWithin 1 BLOCKS_MAX n
 IsLawfulCommand (Load seed n images) = IsWithin 1 BLOCKS_MAX n × AreImages images

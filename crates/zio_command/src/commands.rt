@@ -13,12 +13,12 @@ ghost use Rattle.zio_command.specs.Words.{AreImages, IsLawfulCommand};
 use crate::engines::Engines;
 use crate::generated::{run_generated, write_generated};
 use crate::lines::{CODE_MEMORY, CODE_SOURCE};
+use crate::mode::{RunMode, running, scrubbing};
 use crate::run::run_text;
 use crate::source::{ReadFault, read_all};
 use crate::words::Command;
 use std::alloc::Global;
 use zio_outside::{Shelf, Sink, Source};
-use zio_report::Show;
 use zio_types::{Journal, Status, Text};
 
 /// Does what a command asks for, and ends with its code. A script is run by an engine that `engines` makes.
@@ -63,7 +63,17 @@ where
         Command::Run { show, images, .. } => run_source(
             alloc,
             script,
-            &show,
+            &running(show),
+            &engines,
+            images.as_slice(),
+            shelf,
+            out,
+            journal,
+        ),
+        Command::Scrub { images, .. } => run_source(
+            alloc,
+            script,
+            &scrubbing(),
             &engines,
             images.as_slice(),
             shelf,
@@ -84,11 +94,11 @@ where
     }
 }
 
-/// Reads the source, and runs its text over the images of these names.
+/// Reads the source, and runs its text in this mode over the images of these names.
 fn run_source<E: Engines, S: Source, O: Sink, H: Shelf>(
     alloc: Global,
     script: &mut S,
-    show: &Show,
+    mode: &RunMode,
     engines: &E,
     names: &[Text],
     shelf: &mut H,
@@ -105,7 +115,7 @@ where
         let saw = shelf_by H.tells H.image H.out H.faults H.disk_faults H.fetches H.returns H.last_size in
         ((result.code ≡ 5) × WasUnread (source script.old) (source script.new) (sink out.old) (sink out.new)
         (saw shelf.old) (saw shelf.new) journal.old journal.new)
-        ⊎ RunEnds (S.left script.old) show.now names.now (sink out.old) (sink out.new) (saw shelf.old)
+        ⊎ RunEnds (S.left script.old) mode.now names.now (sink out.old) (sink out.new) (saw shelf.old)
         (saw shelf.new) journal.old journal.new result.code }
     ensures rest { (result.code ≢ 5) → (result.code ≢ 8) → (text : Seq ℕ) → S.left script.old text
         → S.left script.new (rest_of text) }
@@ -124,7 +134,7 @@ where
         Ok(bytes) => run_text(
             alloc,
             bytes.as_slice(),
-            show,
+            mode,
             engines,
             names,
             shelf,

@@ -8,6 +8,7 @@ ghost use Rattle.zio_script.specs.Grammar.{IsScriptOf};
 ghost use Rattle.zio_report.specs.declared.report.Show.TheVariants.{Summary};
 ghost use Rattle.zio_report.specs.Meanings.{IsEmptyJournal};
 ghost use Rattle.zio_command.specs.Codes.{ScriptEnds};
+ghost use Rattle.zio_command.specs.Modes.{running};
 ghost use Rattle.zio_command.specs.Outcomes.{Ends, IsEachBack};
 ghost use Rattle.zio_command.specs.Seen.{shelf_by, sink_by};
 ghost use Rattle.zio_command.specs.Shelves.{KeepOthers};
@@ -15,6 +16,7 @@ ghost use Rattle.zio_command.specs.Words.{AreImages, IsWithin};
 
 use crate::engines::Engines;
 use crate::lines::{CODE_MEMORY, end_with};
+use crate::mode::running;
 use crate::run::run_text;
 use std::alloc::Global;
 use zio_gen::{BLOCKS_MAX, gen_, generated_scripts_are_accepted};
@@ -55,7 +57,7 @@ where
     ensures ends { let sink = sink_by O.holds O.faults in
         let saw = shelf_by H.tells H.image H.out H.faults H.disk_faults H.fetches H.returns H.last_size in
         (script : Script) × IsScriptOf (script_text seed n) script
-        × ScriptEnds Summary script names.now (sink out.old) (sink out.new) (saw shelf.old)
+        × ScriptEnds (running Summary) script names.now (sink out.old) (sink out.new) (saw shelf.old)
         (saw shelf.new) journal.old journal.new result.code }
     ensures back { IsEachBack (H.fetches shelf.old) (H.fetches shelf.new) (H.returns shelf.old) (H.returns shelf.new) }
     ensures tells { H.tells shelf.old ↔ H.tells shelf.new }
@@ -70,7 +72,7 @@ where
         Ok(text) => run_text(
             alloc,
             text.as_str().as_bytes(),
-            &Show::Summary,
+            &running(Show::Summary),
             engines,
             names,
             shelf,

@@ -1,7 +1,7 @@
-//! The options of `run`: docs/FORMATS.md, "Words of a command".
+//! The options of `run` and of `scrub`: docs/FORMATS.md, "Words of a command".
 
-ghost use Rattle.std.specs.Prelude.{◌≡◌, ◌∷◌, [], false, true, MatchOption, map, string_bytes};
-ghost use Rattle.zio_command.specs.Words.{ArePicks, AreWorkers, IsNext, IsSplit, NoNext, NoPicks, NoSplit, NoWorkers, begins_option, begins_with_dash, is_asked, none_asked, show_of, with_option, workers_of};
+ghost use Rattle.std.specs.Prelude.{◌≡◌, ◌∷◌, ◌↔◌, [], false, true, IsTrue, MatchOption, map, string_bytes};
+ghost use Rattle.zio_command.specs.Words.{ArePicks, AreWorkers, IsNext, IsPlain, IsSplit, NoNext, NoPicks, NoSplit, NoWorkers, begins_option, begins_with_dash, is_asked, none_asked, show_of, with_option, workers_of};
 
 use crate::number::{number, number_within};
 use zio_report::Show;
@@ -92,6 +92,13 @@ impl Options {
             journal: self.journal,
             bytes: self.bytes,
         }
+    }
+
+    /// They add nothing to a report.
+    pub(crate) fn is_plain(&self) -> bool
+        ensures { IsTrue result ↔ IsPlain self.now }
+    {
+        !self.journal && !self.bytes
     }
 }
 

@@ -1,12 +1,12 @@
 //! The words of a command as clap reads them, once they are known to be one: docs/FORMATS.md, "Words of a command".
 
-ghost use Rattle.std.specs.Prelude.{◌≡◌, ◌<◌, ◌^◌, [], IfOk, IsErrOf, List, None, Some, ℕ, codes, decimal, map, string_bytes};
+ghost use Rattle.std.specs.Prelude.{◌≡◌, ◌<◌, ◌^◌, [], IfOk, IsErrOf, List, None, Some, ℕ, codes, decimal, map, string_bytes, true};
 ghost use Rattle.clap.specs.Matches.{first_value, found_of, matched_of, one_text, raw_values};
 ghost use Rattle.clap.specs.Simple.{app_of};
 ghost use Rattle.std.specs.Option.{option_map};
 ghost use Rattle.zio_command.specs.declared.options.Options.{Options};
-ghost use Rattle.zio_command.specs.declared.words.Command.TheVariants.{Gen, Load, Run};
-ghost use Rattle.zio_command.specs.Parses.{load_app, run_app, size_app};
+ghost use Rattle.zio_command.specs.declared.words.Command.TheVariants.{Gen, Load, Run, Scrub};
+ghost use Rattle.zio_command.specs.Parses.{load_app, parsed_of, run_app, size_app};
 ghost use Rattle.zio_command.specs.Words.{AreImages, IsSize, IsSplit, IsWithin, or_usual, show_of, workers_of};
 
 use crate::number::{number, number_within};
@@ -19,14 +19,19 @@ use zio_report::Show;
 use zio_types::{List, Text};
 
 /// What words that were split into options and images ask for.
-pub(crate) fn parse_run(
-    alloc: Global,
-    serial: bool,
-    words: &[String],
-) -> Result<Command, WordsError>
-    ensures ok { IfOk result (λ command. (options : Options) (names : List (List ℕ))
+#[derive(Drop)]
+struct Parsed {
+    workers: u32,
+    picks: Option<u64>,
+    show: Show,
+    images: List<Text>,
+}
+
+/// Reads such words.
+fn parse_words(alloc: Global, serial: bool, words: &[String]) -> Result<Parsed, WordsError>
+    ensures ok { IfOk result (λ parsed. (options : Options) (names : List (List ℕ))
         → IsSplit serial (map string_bytes words.now) options names → AreImages names
-        → command ≡ Run (workers_of serial options) options.picks (show_of options) names) }
+        → parsed ≡ parsed_of serial options names) }
     ensures memory { ¬ IsErrOf result WordsError.Words }
 {
     let Ok(parser) = run_parser(alloc, serial) else {
@@ -42,12 +47,54 @@ pub(crate) fn parse_run(
         bytes: matches.get_flag("data"),
     };
     let images = images_in(alloc, &matches)?;
-    Ok(Command::Run {
+    Ok(Parsed {
         workers,
         picks,
         show,
         images,
     })
+}
+
+/// What they ask for behind `run`.
+pub(crate) fn parse_run(
+    alloc: Global,
+    serial: bool,
+    words: &[String],
+) -> Result<Command, WordsError>
+    ensures ok { IfOk result (λ command. (options : Options) (names : List (List ℕ))
+        → IsSplit serial (map string_bytes words.now) options names → AreImages names
+        → command ≡ Run (workers_of serial options) options.picks (show_of options) names) }
+    ensures memory { ¬ IsErrOf result WordsError.Words }
+{
+    match parse_words(alloc, serial, words) {
+        Ok(
+            Parsed {
+                workers,
+                picks,
+                show,
+                images,
+            },
+        ) => Ok(Command::Run {
+            workers,
+            picks,
+            show,
+            images,
+        }),
+        Err(error) => Err(error),
+    }
+}
+
+/// And behind `scrub`, whose options add nothing to a report.
+pub(crate) fn parse_scrub(alloc: Global, words: &[String]) -> Result<Command, WordsError>
+    ensures ok { IfOk result (λ command. (options : Options) (names : List (List ℕ))
+        → IsSplit true (map string_bytes words.now) options names → AreImages names
+        → command ≡ Scrub options.picks names) }
+    ensures memory { ¬ IsErrOf result WordsError.Words }
+{
+    match parse_words(alloc, true, words) {
+        Ok(Parsed { picks, images, .. }) => Ok(Command::Scrub { picks, images }),
+        Err(error) => Err(error),
+    }
 }
 
 /// What a seed and a number of blocks ask for.
@@ -88,7 +135,7 @@ pub(crate) fn parse_load(alloc: Global, words: &[String]) -> Result<Command, Wor
     })
 }
 
-/// What clap is told of `run`.
+/// What clap is told of `run` and of `scrub`.
 fn run_parser<'a>(alloc: Global, serial: bool) -> Result<Parser<'a>, Error>
     ensures { IfOk result (λ parser. app_of parser ≡ run_app serial) }
 {

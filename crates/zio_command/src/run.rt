@@ -11,13 +11,14 @@ ghost use Rattle.zio_command.specs.Shelves.{KeepOthers};
 ghost use Rattle.zio_command.specs.Words.{AreImages};
 
 use crate::engines::Engines;
-use crate::ground::run_on_disks;
 use crate::lines::{CODE_MEMORY, code_for, code_of, refuse_image, refuse_script};
+use crate::mode::RunMode;
 use crate::outcome::RunOutcome;
+use crate::scrub::run_in_mode;
 use crate::shelf::{ImagesFault, fetch_images, give_back_images};
 use std::alloc::Global;
 use zio_outside::{Shelf, Sink};
-use zio_report::{RunFault, Show};
+use zio_report::RunFault;
 use zio_script::{Script, ScriptError, read_script};
 use zio_types::{Journal, Status, Text};
 
@@ -26,7 +27,7 @@ use zio_types::{Journal, Status, Text};
 pub(crate) fn run_text<E: Engines, O: Sink, H: Shelf>(
     alloc: Global,
     text: &[u8],
-    show: &Show,
+    mode: &RunMode,
     engines: &E,
     names: &[Text],
     shelf: &mut H,
@@ -41,7 +42,7 @@ where
     requires home { H.tells shelf.old → (name : Seq ℕ) → ¬ H.out shelf.old name }
     ensures ends { let sink = sink_by O.holds O.faults in
         let saw = shelf_by H.tells H.image H.out H.faults H.disk_faults H.fetches H.returns H.last_size in
-        RunEnds (λ told. told ≡ text.now) show.now names.now (sink out.old) (sink out.new) (saw shelf.old)
+        RunEnds (λ told. told ≡ text.now) mode.now names.now (sink out.old) (sink out.new) (saw shelf.old)
         (saw shelf.new)
         journal.old journal.new result.code }
     ensures unfetched { result.code ≡ 2 → shelf.new ≡ shelf.old }
@@ -54,7 +55,7 @@ where
         × ((name : Seq ℕ) → H.sound shelf.old name → H.sound shelf.new name) }
 {
     match read_script(alloc, text) {
-        Ok(script) => run_script_on(alloc, &script, show, engines, names, shelf, out, journal),
+        Ok(script) => run_script_on(alloc, &script, mode, engines, names, shelf, out, journal),
         Err(ScriptError::Fault(fault)) => refuse_script(alloc, out, fault),
         Err(ScriptError::Memory) => Status { code: CODE_MEMORY },
     }
@@ -64,7 +65,7 @@ where
 fn run_script_on<E: Engines, O: Sink, H: Shelf>(
     alloc: Global,
     script: &Script,
-    show: &Show,
+    mode: &RunMode,
     engines: &E,
     names: &[Text],
     shelf: &mut H,
@@ -80,7 +81,7 @@ where
     requires home { H.tells shelf.old → (name : Seq ℕ) → ¬ H.out shelf.old name }
     ensures ends { let sink = sink_by O.holds O.faults in
         let saw = shelf_by H.tells H.image H.out H.faults H.disk_faults H.fetches H.returns H.last_size in
-        ScriptEnds show.now script.now names.now (sink out.old) (sink out.new) (saw shelf.old) (saw shelf.new)
+        ScriptEnds mode.now script.now names.now (sink out.old) (sink out.new) (saw shelf.old) (saw shelf.new)
         journal.old journal.new result.code }
     ensures back { IsEachBack (H.fetches shelf.old) (H.fetches shelf.new) (H.returns shelf.old) (H.returns shelf.new) }
     ensures tells { H.tells shelf.old ↔ H.tells shelf.new }
@@ -90,7 +91,7 @@ where
         (H.faults shelf.new ≡ H.faults shelf.old) × (H.disk_faults shelf.new ≡ H.disk_faults shelf.old)
         × ((name : Seq ℕ) → H.sound shelf.old name → H.sound shelf.new name) }
 {
-    match run_on_shelf(alloc, script, show, engines, names, shelf, out, journal) {
+    match run_on_shelf(alloc, script, mode, engines, names, shelf, out, journal) {
         RunOutcome::Ended(ending) => Status {
             code: code_of(ending),
         },
@@ -105,7 +106,7 @@ where
 fn run_on_shelf<E: Engines, O: Sink, H: Shelf>(
     alloc: Global,
     script: &Script,
-    show: &Show,
+    mode: &RunMode,
     engines: &E,
     names: &[Text],
     shelf: &mut H,
@@ -121,7 +122,7 @@ where
     requires home { H.tells shelf.old → (name : Seq ℕ) → ¬ H.out shelf.old name }
     ensures outcome { let sink = sink_by O.holds O.faults in
         let saw = shelf_by H.tells H.image H.out H.faults H.disk_faults H.fetches H.returns H.last_size in
-        CameOut show.now script.now names.now (sink out.old) (sink out.new) (saw shelf.old) (saw shelf.new)
+        CameOut mode.now script.now names.now (sink out.old) (sink out.new) (saw shelf.old) (saw shelf.new)
         journal.old journal.new result }
     ensures unwritten { (leaf : ℕ) → result ≡ RunOutcome.Unfit leaf → out.new ≡ out.old }
     ensures back { IsEachBack (H.fetches shelf.old) (H.fetches shelf.new) (H.returns shelf.old) (H.returns shelf.new) }
@@ -134,7 +135,7 @@ where
 {
     match fetch_images(alloc, names, shelf) {
         Ok(disks) => {
-            let (outcome, disks) = run_on_disks(alloc, script, show, engines, disks, out, journal);
+            let (outcome, disks) = run_in_mode(alloc, script, mode, engines, disks, out, journal);
             give_back_images(disks, shelf);
             outcome
         }

@@ -7,7 +7,7 @@ ghost use Rattle.zio_command.specs.Words.{IsCommandOf, IsNoCommandOf, IsSize, No
 use crate::names::are_images;
 use crate::number::number_within;
 use crate::options::{first_word, options_of};
-use crate::parse::{parse_gen, parse_load, parse_run};
+use crate::parse::{parse_gen, parse_load, parse_run, parse_scrub};
 use std::alloc::Global;
 use zio_gen::BLOCKS_MAX;
 use zio_report::Show;
@@ -23,6 +23,12 @@ pub enum Command {
         /// The seed of the picks, where it is asked for; none with workers.
         picks: Option<u64>,
         show: Show,
+        images: List<Text>,
+    },
+    /// Runs a script over images, with a report of no options, and scrubs the blocks that it leaves bound.
+    Scrub {
+        /// The seed of the picks, where it is asked for.
+        picks: Option<u64>,
         images: List<Text>,
     },
     /// Writes the script of `n` blocks from a seed.
@@ -50,7 +56,7 @@ pub enum WordsError {
 /// The command of these words, which stand behind the program's name: of the program on one thread, or of that with
 /// workers.
 ///
-/// Both have `run`, and the first `gen` and `load` too.
+/// Both have `run`, and the first `scrub`, `gen` and `load` too.
 pub fn read_words(alloc: Global, serial: bool, words: &[String]) -> Result<Command, WordsError>
     ensures ok { IfOk result (IsCommandOf serial (map string_bytes words.now)) }
     ensures words { IsErrOf result WordsError.Words → IsNoCommandOf serial (map string_bytes words.now) }
@@ -62,6 +68,8 @@ pub fn read_words(alloc: Global, serial: bool, words: &[String]) -> Result<Comma
     };
     if verb == "run" {
         read_run(alloc, serial, rest)
+    } else if serial && verb == "scrub" {
+        read_scrub(alloc, rest)
     } else if serial && verb == "gen" {
         read_gen(alloc, rest)
     } else if serial && verb == "load" {
@@ -79,6 +87,20 @@ fn read_run(alloc: Global, serial: bool, words: &[String]) -> Result<Command, Wo
 {
     match options_of(serial, words) {
         Some((_, names)) if are_images(names) => parse_run(alloc, serial, words),
+        _ => Err(WordsError::Words),
+    }
+}
+
+/// The command of the words behind `scrub`.
+fn read_scrub(alloc: Global, words: &[String]) -> Result<Command, WordsError>
+    ensures ok { IfOk result (IsCommandOf true (codes "scrub" ∷ map string_bytes words.now)) }
+    ensures words { IsErrOf result WordsError.Words → IsNoCommandOf true (codes "scrub" ∷ map string_bytes words.now) }
+    ensures memory { IsErrOf result WordsError.Memory → (command : Asked) × IsCommandOf true (codes "scrub" ∷ map string_bytes words.now) command }
+{
+    match options_of(true, words) {
+        Some((options, names)) if options.is_plain() && are_images(names) => {
+            parse_scrub(alloc, words)
+        }
         _ => Err(WordsError::Words),
     }
 }

@@ -1,4 +1,4 @@
-//! The options of `run`, and what they ask for.
+//! The options of `run` and of `scrub`, and what they ask for.
 
 use std::alloc::Global;
 use std::process::Abort;
@@ -220,4 +220,46 @@ fn each_program_has_its_own_option(rt: HostRuntime) -> Result<(), Fail> {
         "run,--journal,--workers,16,a",
         (16, None, WITH_JOURNAL, 1),
     )
+}
+
+/// Which picks and how many images a `scrub` of these words, with a comma between two, asks for; nothing where they are no
+/// command.
+fn scrub_asked(
+    alloc: Global,
+    serial: bool,
+    line: &str,
+) -> Result<Option<(Option<u64>, usize)>, Fail> {
+    let words = words_of(alloc, words_in(alloc, line)?.as_slice())?;
+    match read_words(alloc, serial, words.as_slice()) {
+        Ok(Command::Scrub { picks, images }) => Ok(Some((picks, images.len()))),
+        Ok(_) => Err(Fail::from("another command")),
+        Err(WordsError::Words) => Ok(None),
+        Err(WordsError::Memory) => Err(Fail::from("no memory")),
+    }
+}
+
+/// Words about a scrub that are no command, with a comma between two.
+const NO_SCRUBS: [&str; 8] = [
+    "scrub",
+    "scrub,--picks,1",
+    "scrub,--journal,a",
+    "scrub,--picks,1,--data,a",
+    "scrub,--workers,4,a",
+    "scrub,--picks,1,--picks,1,a",
+    "scrub,a,--picks,1",
+    "scrub,a,a",
+];
+
+#[test]
+fn a_scrub_has_picks_and_images_alone(rt: HostRuntime) -> Result<(), Fail> {
+    let alloc = rt.alloc();
+    assert_eq!(rt; scrub_asked(alloc, true, "scrub,a")?, Some((None, 1)));
+    assert_eq!(rt;
+        scrub_asked(alloc, true, "scrub,--picks,9,a,b")?,
+        Some((Some(9), 2))
+    );
+    for line in &NO_SCRUBS {
+        refuses(&rt, alloc, true, line)?;
+    }
+    refuses(&rt, alloc, false, "scrub,a")
 }

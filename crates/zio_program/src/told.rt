@@ -43,7 +43,7 @@ pub fn line_of<R: Files>(
         5 => format!(in alloc; "standard input can't be read"),
         6 => format!(in alloc; "standard output can't be written"),
         7 => format!(in alloc;
-            "an image can't be read or written; the report ends with the last whole round"
+            "an image can't be read or written; the report ends with the last whole round, or before the scrub's line"
         ),
         8 => format!(in alloc; "no memory"),
         9 => format!(in alloc; "requests are left: suspended, or in a batch that is held"),

@@ -1,14 +1,18 @@
 //! The engine on one thread, made for a command.
 
-ghost use Rattle.std.specs.Prelude.{◌≡◌, ◌≤◌, ℕ, List as Seq, length, map};
+ghost use Rattle.std.specs.Prelude.{◌≡◌, ◌≤◌, ◌⊎◌, ℕ, List as Seq, IfErr, IfOk, length, map};
 ghost use Rattle.zio_script.specs.Grammar.{IsScriptOf};
-ghost use Rattle.zio_disks.specs.Disks.{AreSameDisks};
-ghost use Rattle.zio_report.specs.Meanings.{IsEmptyJournal};
+ghost use Rattle.zio_cksum.specs.Images.{Images};
+ghost use Rattle.zio_gang.specs.Trees.{sizes_of};
+ghost use Rattle.zio_disks.specs.Disks.{AreSameDisks, Tell};
+ghost use Rattle.zio_disks.specs.Whole.{IsWholeTree};
+ghost use Rattle.zio_report.specs.Meanings.{IsEmptyJournal, course_of};
+ghost use Rattle.zio_suspend.specs.Pools.{AreBlocks, AreBoundIn};
 ghost use Rattle.zio_command.specs.Commands.{picks_of};
-ghost use Rattle.zio_command.specs.Grounds.{CameOutOver, IsSettingOf};
+ghost use Rattle.zio_command.specs.Grounds.{CameOutOver, HasRunOver, IsSettingOf, IsUnbegun, WasCutOver};
 ghost use Rattle.zio_command.specs.Seen.{sink_by};
 
-use crate::rounds::run_rounds;
+use crate::rounds::{run_pool_rounds, run_rounds};
 use std::alloc::Global;
 use zio_command::{Command, Engines, RunOutcome, outcome_of};
 use zio_disks::Setting;
@@ -17,6 +21,7 @@ use zio_nodes::NodeBox;
 use zio_outside::{Disk, Sink};
 use zio_report::{RunFault, Show};
 use zio_script::Script;
+use zio_suspend::PoolEnd;
 use zio_turns::DisksBack;
 use zio_types::{Journal, List, Top};
 
@@ -33,7 +38,9 @@ impl Engines for OneThread {
         ensures { result.picks ≡ picks_of command.now }
     {
         match command {
-            Command::Run { picks, .. } => OneThread { picks: *picks },
+            Command::Run { picks, .. } | Command::Scrub { picks, .. } => OneThread {
+                picks: *picks,
+            },
             Command::Gen { .. } | Command::Load { .. } => OneThread { picks: None },
         }
     }
@@ -63,6 +70,36 @@ impl Engines for OneThread {
                 journal,
             ),
             None => run_by(
+                alloc, script, show, setting, tops, FirstPicks, Alone, disks, out, journal,
+            ),
+        }
+    }
+
+    fn run_pool<O: Sink, D: Disk + Drop>(
+        &self,
+        alloc: Global,
+        script: &Script,
+        show: &Show,
+        setting: Setting,
+        tops: List<Top>,
+        disks: Vec<D>,
+        out: &mut O,
+        journal: &mut Journal,
+    ) -> (Result<PoolEnd, RunFault>, Vec<D>) {
+        match self.picks {
+            Some(seed) => run_pool_by(
+                alloc,
+                script,
+                show,
+                setting,
+                tops,
+                from_seed(seed),
+                Alone,
+                disks,
+                out,
+                journal,
+            ),
+            None => run_pool_by(
                 alloc, script, show, setting, tops, FirstPicks, Alone, disks, out, journal,
             ),
         }
@@ -101,5 +138,43 @@ pub(crate) fn run_by<O: Sink, D: Disk + Drop, P: Picks + Drop, H: Helper<NodeBox
             (outcome_of(ended), disks)
         }
         Err(DisksBack { disks }) => (RunOutcome::Cut(RunFault::Memory), disks),
+    }
+}
+
+/// The same, and gives the blocks that the script leaves bound.
+pub(crate) fn run_pool_by<O: Sink, D: Disk + Drop, P: Picks + Drop, H: Helper<NodeBox> + Drop>(
+    alloc: Global,
+    script: &Script,
+    show: &Show,
+    setting: Setting,
+    tops: List<Top>,
+    picks: P,
+    helper: H,
+    disks: Vec<D>,
+    out: &mut O,
+    journal: &mut Journal,
+) -> (Result<PoolEnd, RunFault>, Vec<D>)
+    requires can { H.Can }
+    requires script { (text : Seq ℕ) × IsScriptOf text script.now }
+    requires setting { IsSettingOf script.now (map D.bytes disks.items) setting }
+    requires tops { tops ≡ setting.tops }
+    requires few { length disks.items ≤ 16 }
+    requires empty { IsEmptyJournal journal.old }
+    ensures whole { let seen = sink_by O.holds O.faults in IfOk result.0 (λ end.
+        HasRunOver D.faults D.image show.now script.now end.ending disks.items result.1.items (seen out.old)
+        (seen out.new) journal.new) }
+    ensures bound { IfOk result.0 (λ end. (before : Images) → Tell D.image disks.items before →
+        AreBoundIn (course_of script.now before journal.new).state end.point end.bound) }
+    ensures placed { IfOk result.0 (λ end. AreBlocks IsWholeTree (sizes_of setting.tops) end.bound) }
+    ensures cut { let seen = sink_by O.holds O.faults in IfErr result.0 (λ fault.
+        WasCutOver D.faults D.image show.now script.now fault disks.items result.1.items (seen out.old)
+        (seen out.new) journal.new
+        ⊎ IsUnbegun fault disks.items result.1.items (seen out.old) (seen out.new) journal.old journal.new) }
+    ensures same { AreSameDisks D.bytes D.faults D.faults_at_fetch D.home D.image D.sound disks.items result.1.items }
+{
+    let images = disks.len() as u32;
+    match Graph::new(alloc, setting, disks, tops, picks, helper) {
+        Ok(engine) => run_pool_rounds(alloc, script, show, images, engine, out, journal),
+        Err(DisksBack { disks }) => (Err(RunFault::Memory), disks),
     }
 }

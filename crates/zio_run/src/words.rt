@@ -12,8 +12,8 @@ ghost use Rattle.zio_heal.specs.Healed.{IsHealed};
 ghost use Rattle.zio_heal.specs.Pools.{NoSmallRefused};
 ghost use Rattle.zio_heal.specs.StoredPlainly.{IsStoredPlainly};
 ghost use Rattle.zio_command.specs.declared.words.Command.{Command as Asked};
-ghost use Rattle.zio_command.specs.Commands.{CommandEnds, image_names, reads, runs, shown_by, told_by};
-ghost use Rattle.zio_command.specs.Headline.{Headline, TellEach};
+ghost use Rattle.zio_command.specs.Commands.{CommandEnds, image_names, mode_of, reads, runs, told_by};
+ghost use Rattle.zio_command.specs.Headline.{HeadlineOf, TellEach};
 ghost use Rattle.zio_command.specs.Outcomes.{Ends, HasLawfulSize, IsEachBack, IsEnding, IsSerialCode, rest_of, words_line};
 ghost use Rattle.zio_command.specs.Seen.{shelf_by, sink_by, source_by};
 ghost use Rattle.zio_command.specs.Shelves.{KeepOthers};
@@ -60,12 +60,12 @@ where
         (saw shelf.new)
         journal.old journal.new result.code }
 
-    // What the codes 0, 4 and 9 say of the report, the images and the journal.
+    // What the codes 0, 4 and 9 say of the report, the images and the journal, and of the scrub where one is asked for.
     ensures headline { (command : Asked) → IsCommandOf serial (map string_bytes words.now) command → runs command ≡ true →
         IsEnding result.code → (text : Seq ℕ) (images : Images) → told_by (S.left script.old) command text
         → H.tells shelf.old →
         TellEach (H.image shelf.old) (image_names command) images → (read : Script) × IsScriptOf text read
-        × Headline (shown_by command) read (image_names command) images journal.new (H.image shelf.new)
+        × HeadlineOf (mode_of command) read (image_names command) images journal.new (H.image shelf.new)
         (O.holds out.old) (O.holds out.new) result.code }
     ensures steady { (command : Asked) → IsCommandOf serial (map string_bytes words.now) command → IsEnding result.code →
         (S.faults script.new ≡ S.faults script.old) × (O.faults out.new ≡ O.faults out.old)

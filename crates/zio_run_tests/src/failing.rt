@@ -66,6 +66,22 @@ const RESUMED: Known<'static> = Known {
     ],
 };
 
+/// A mirror whose bad leaf is mended by a scrub.
+const SCRUBBED: Known<'static> = Known {
+    case: Case {
+        words: &["scrub", "a", "b"],
+        script: b"top 0 1\nfault 0 write 0 65536 0 1 eio\n1 write x sha256 1 sync fill 41 512\ngo\nclear\n",
+        first_len: 65536,
+        second_len: 65536,
+    },
+    texts: &[
+        b"pool 1 2\n",
+        b"pool 1 2\nround 1 batch 1 point 0\n1 write x ok 512\nend 0\n",
+        b"pool 1 2\nround 1 batch 1 point 0\n1 write x ok 512\nend 0\n\
+            scrub blocks 1 copies 2 repaired 1 failed 0 lost 0\n",
+    ],
+};
+
 /// The code and the output are those of a run in which this call of the object failed.
 fn is_told(known: &Known<'_>, object: Object, call: u64, ran: &Ran) -> bool {
     let held = ran.sink.held();
@@ -148,7 +164,8 @@ fn each_call_fails_alone(rt: HostRuntime) -> Result<(), Fail> {
     let alloc = rt.alloc();
     each_object(&rt, alloc, &WRITE_THEN_READ)?;
     each_object(&rt, alloc, &MENDED)?;
-    each_object(&rt, alloc, &RESUMED)
+    each_object(&rt, alloc, &RESUMED)?;
+    each_object(&rt, alloc, &SCRUBBED)
 }
 
 /// What was run whole stays recorded, the entry and the completion of the write, and nothing else.

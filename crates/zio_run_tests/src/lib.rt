@@ -1,5 +1,6 @@
 //! Tests of the top call over the objects in memory: reports and images that no clause spells out, what the order of
-//! the work changes and what it leaves, each call of the outside that fails alone, and a disk that forgets.
+//! the work changes and what it leaves, scrubs behind a run, each call of the outside that fails alone, and a disk that
+//! forgets.
 //!
 //! They stand here, since a crate with tests of its own is proved once more with them. There is nothing else in it.
 #![tactic(auto)]
@@ -16,3 +17,5 @@ mod orders;
 mod reports;
 #[cfg(test)]
 mod runs;
+#[cfg(test)]
+mod scrubs;

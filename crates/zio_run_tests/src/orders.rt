@@ -7,7 +7,7 @@ use std::process::Abort;
 use std::test::Fail;
 
 /// Claims the sectors 0 to 119 of 128, and then writes eight blocks of a sector in one batch.
-const EIGHT_WRITES: &str =
+pub(crate) const EIGHT_WRITES: &str =
     "1 claim f 2800000000000000000000000000000028000000000000002800000000000000280000000000000050000000000000002700270002020080000000000000000000000000000000000000000000000000010000000000000001000000000000000000000000000000000000000000000000000000000000000000000000000000\ngo\n\
     2 write w1 off 1 async fill 41 512\n3 write w2 off 1 async fill 41 512\n4 write w3 off 1 async fill 41 512\n\
     5 write w4 off 1 async fill 41 512\n6 write w5 off 1 async fill 41 512\n7 write w6 off 1 async fill 41 512\n\

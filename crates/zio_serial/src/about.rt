@@ -12,6 +12,7 @@ pub const ABOUT: About<'static> = About {
 
 /// Its commands.
 pub const USAGE: &str = "zio_serial run [--picks SEED] [--journal] [--data] IMAGE.. < SCRIPT
+       zio_serial scrub [--picks SEED] IMAGE.. < SCRIPT
        zio_serial gen SEED N
        zio_serial load SEED N IMAGE..";
 
@@ -24,6 +25,12 @@ are changed in place; leaf 0 of the script is the first of them.
   --journal     shows where each round's blocks were placed, and the order in
                 which its requests completed
   --data        shows the bytes that each read gave
+
+scrub IMAGE.. does what run does, and then reads every copy of every block that
+the script leaves: one that isn't good is written from a good one, if there is
+one. A last line tells how many blocks and copies there are, and how many copies
+were repaired, couldn't be written, and are lost. A run that panics isn't
+scrubbed.
 
 gen SEED N writes a script of 1 to 20000 blocks on a pool of four images, always
 the same for a SEED below 4294967296. load SEED N IMAGE.. runs that script and

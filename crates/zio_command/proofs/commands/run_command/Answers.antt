@@ -3,9 +3,11 @@ use Rattle.zio_gen.specs.Generated.{script_text}
 use Rattle.zio_script.specs.declared.script.Script.{Script}
 use Rattle.zio_script.specs.Grammar.{IsScriptOf}
 use Rattle.zio_report.specs.declared.report.Show.TheVariants.{Summary}
+use Rattle.zio_command.specs.declared.mode.RunMode.{RunMode}
 use Rattle.zio_command.specs.declared.words.Command.{Command}
 use Rattle.zio_command.specs.Codes.{RunEnds, ScriptEnds}
 use Rattle.zio_command.specs.Commands.{CommandEnds, WasUnread, reads}
+use Rattle.zio_command.specs.Modes.{running, scrubbing}
 use Rattle.zio_command.specs.Seen.{shelf_by, sink_by, source_by}
 use Rattle.zio_command.specs.Words.{AreImages, IsLawfulCommand}
 use Rattle.zio_command.proofs.CommandLemmas.{script_never}
@@ -32,9 +34,28 @@ returns-in-Run-clause-ends g c =
     let journal = c.run_source.new.journal in
     let code = c.run_source.result.code in
     let unread = (code ≡ 5) × WasUnread (source c.args.script.now) (source c.run_source.new.script) out wrote old new before journal in
-    let ends : unread ⊎ RunEnds (g.S.Source.left c.args.script.now) c.in-Run.show c.in-Run.images out wrote old new before journal code =
-    subst (λ ns. unread ⊎ RunEnds (g.S.Source.left c.args.script.now) c.in-Run.show ns out wrote old new before journal code) c.as_slice.ensures c.run_source.ensures.ends in
+    let ends : unread ⊎ RunEnds (g.S.Source.left c.args.script.now) (running c.in-Run.show) c.in-Run.images out wrote old new before journal code =
+    subst (λ (m : RunMode). unread ⊎ RunEnds (g.S.Source.left c.args.script.now) m c.in-Run.images out wrote old new before journal code) c.running.ensures
+    (subst (λ ns. unread ⊎ RunEnds (g.S.Source.left c.args.script.now) c.running.result ns out wrote old new before journal code) c.as_slice.ensures c.run_source.ensures.ends) in
     subst (λ (x : Command). CommandEnds x (source c.args.script.now) (source c.run_source.new.script) out wrote old new before journal code) (sym c.in-Run.is) ends
+
+pub returns-in-Scrub-clause-ends : goal.returns-in-Scrub-clause-ends
+returns-in-Scrub-clause-ends g c =
+    let source = source_by g.S.Source.left g.S.Source.faults in
+    let sink = sink_by g.O.Sink.holds g.O.Sink.faults in
+    let saw = shelf_by g.H.Shelf.tells g.H.Shelf.image g.H.Shelf.out g.H.Shelf.faults g.H.Shelf.disk_faults g.H.Shelf.fetches g.H.Shelf.returns g.H.Shelf.last_size in
+    let old = saw c.args.shelf.now in
+    let new = saw c.run_source-in-Scrub.new.shelf in
+    let out = sink c.args.out.now in
+    let wrote = sink c.run_source-in-Scrub.new.out in
+    let before = c.args.journal.now in
+    let journal = c.run_source-in-Scrub.new.journal in
+    let code = c.run_source-in-Scrub.result.code in
+    let unread = (code ≡ 5) × WasUnread (source c.args.script.now) (source c.run_source-in-Scrub.new.script) out wrote old new before journal in
+    let ends : unread ⊎ RunEnds (g.S.Source.left c.args.script.now) scrubbing c.in-Scrub.images out wrote old new before journal code =
+    subst (λ (m : RunMode). unread ⊎ RunEnds (g.S.Source.left c.args.script.now) m c.in-Scrub.images out wrote old new before journal code) c.scrubbing.ensures
+    (subst (λ ns. unread ⊎ RunEnds (g.S.Source.left c.args.script.now) c.scrubbing.result ns out wrote old new before journal code) c.as_slice-in-Scrub.ensures c.run_source-in-Scrub.ensures.ends) in
+    subst (λ (x : Command). CommandEnds x (source c.args.script.now) (source c.run_source-in-Scrub.new.script) out wrote old new before journal code) (sym c.in-Scrub.is) ends
 
 pub returns-in-Gen-clause-ends : goal.returns-in-Gen-clause-ends
 returns-in-Gen-clause-ends g c =
@@ -58,8 +79,8 @@ returns-clause-ends g c =
     let journal = c.run_generated.new.journal in
     let code = c.run_generated.result.code in
     let text = script_text c.in-Load.seed c.in-Load.n in
-    let ends : (script : Script) × IsScriptOf text script × ScriptEnds Summary script c.in-Load.images out wrote old new before journal code =
-    subst (λ ns. (script : Script) × IsScriptOf text script × ScriptEnds Summary script ns out wrote old new before journal code)
+    let ends : (script : Script) × IsScriptOf text script × ScriptEnds (running Summary) script c.in-Load.images out wrote old new before journal code =
+    subst (λ ns. (script : Script) × IsScriptOf text script × ScriptEnds (running Summary) script ns out wrote old new before journal code)
     c.as_slice-in-Load.ensures c.run_generated.ensures.ends in
     subst (λ (x : Command). CommandEnds x (source c.args.script.now) (source c.args.script.now) out wrote old new before journal code) (sym c.in-Load.is) ends
 

@@ -15,7 +15,7 @@ returns-in-Ok-clause-ends g c =
     let saw = shelf_by g.H.Shelf.tells g.H.Shelf.image g.H.Shelf.out g.H.Shelf.faults g.H.Shelf.disk_faults g.H.Shelf.fetches g.H.Shelf.returns g.H.Shelf.last_size in
     let read = c.as_slice.result.now in
     let bytes = c.in-Ok.bytes.items in
-    inr (ends_retold (λ told. told ≡ read) (g.S.Source.left c.args.script.now) c.args.show.now c.args.names.now (sink c.args.out.now) (sink c.run_text.new.out)
+    inr (ends_retold (λ told. told ≡ read) (g.S.Source.left c.args.script.now) c.args.mode.now c.args.names.now (sink c.args.out.now) (sink c.run_text.new.out)
     (saw c.args.shelf.now) (saw c.run_text.new.shelf) c.args.journal.now c.run_text.new.journal c.run_text.result.code
     (λ script is text told. IsScriptOf-read text bytes script (c.in-Ok.ensures.read text told)
     (subst (λ (ts : List ℕ). IsScriptOf ts script) c.as_slice.ensures.value (is read refl)))

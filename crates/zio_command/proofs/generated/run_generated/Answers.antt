@@ -2,7 +2,10 @@ use Rattle.std.proofs.Common.{◌≡◌, List, ℕ, refl, sym, ◌∙◌, subst}
 use Rattle.zio_gen.specs.Generated.{script_text}
 use Rattle.zio_report.specs.declared.report.Show.TheVariants.{Summary}
 use Rattle.zio_script.specs.Grammar.{IsScriptOf}
+use Rattle.zio_command.specs.declared.mode.RunMode.{RunMode}
+use Rattle.zio_command.specs.Codes.{RunEnds}
 use Rattle.zio_command.specs.Codes.ScriptEnds.{Wanting}
+use Rattle.zio_command.specs.Modes.{running}
 use Rattle.zio_command.specs.Seen.{shelf_by, sink_by}
 use Rattle.zio_command.proofs.CommandLemmas.{wanting}
 use Rattle.zio_command.proofs.EndLemmas.{known_ends}
@@ -18,8 +21,8 @@ returns-in-Ok-clause-ends g c =
     let accepted = subst (λ (ts : List ℕ). IsScriptOf ts script.0) (sym z) script.1 in (
       script.0,
       script.1,
-      known_ends c.as_bytes.result.now Summary script.0 c.args.names.now (sink c.args.out.now) (sink c.run_text.new.out) (saw c.args.shelf.now) (saw c.run_text.new.shelf)
-          c.args.journal.now c.run_text.new.journal c.run_text.result.code accepted c.run_text.ensures.ends,
+      known_ends c.as_bytes.result.now (running Summary) script.0 c.args.names.now (sink c.args.out.now) (sink c.run_text.new.out) (saw c.args.shelf.now) (saw c.run_text.new.shelf)
+          c.args.journal.now c.run_text.new.journal c.run_text.result.code accepted (subst (λ (m : RunMode). RunEnds (λ told. told ≡ c.as_bytes.result.now) m c.args.names.now (sink c.args.out.now) (sink c.run_text.new.out) (saw c.args.shelf.now) (saw c.run_text.new.shelf) c.args.journal.now c.run_text.new.journal c.run_text.result.code) c.running.ensures c.run_text.ensures.ends),
     )
 
 pub returns-in-Err-clause-ends : goal.returns-in-Err-clause-ends

@@ -8,7 +8,7 @@ use Rattle.zio_command.proofs.run.run_on_shelf.Goals as goal
 
 pub give_back_images-requires : goal.give_back_images-requires
 give_back_images-requires g c =
-    let d = c.run_on_disks-outcome in
+    let d = c.run_in_mode-outcome in
     record {
       home = λ still. trip_out g.H.Disk.Disk.bytes g.H.Disk.Disk.faults g.H.Disk.Disk.faults_at_fetch g.H.Disk.Disk.home g.H.Disk.Disk.image g.H.Disk.Disk.sound c.args.names.now
           c.in-Ok.disks.items d.result.1.items (g.H.Shelf.image c.args.shelf.now) (g.H.Shelf.image c.fetch_images.new.shelf)
@@ -18,7 +18,7 @@ give_back_images-requires g c =
 pub returns-in-Ok-clause-outcome : goal.returns-in-Ok-clause-outcome
 returns-in-Ok-clause-outcome g c =
     let saw = shelf_by g.H.Shelf.tells g.H.Shelf.image g.H.Shelf.out g.H.Shelf.faults g.H.Shelf.disk_faults g.H.Shelf.fetches g.H.Shelf.returns g.H.Shelf.last_size in
-    let d = c.run_on_disks-outcome in
+    let d = c.run_in_mode-outcome in
     let back = c.give_back_images.ensures in
     let trip : Trip g.H.Disk.Disk.bytes g.H.Disk.Disk.faults g.H.Disk.Disk.faults_at_fetch g.H.Disk.Disk.home g.H.Disk.Disk.image g.H.Disk.Disk.sound c.args.names.now
     c.in-Ok.disks.items d.result.1.items (saw c.args.shelf.now) (saw c.fetch_images.new.shelf) (saw c.give_back_images.new.shelf) = record {
@@ -44,12 +44,12 @@ returns-in-Ok-clause-outcome g c =
       unrisen = back.same;
     } in
     let sink = sink_by g.O.Sink.holds g.O.Sink.faults in
-    came_out c.args.show.now c.args.script.now (sink c.args.out.now) (sink d.new.out) c.args.journal.now d.new.journal trip d.result.0 d.ensures.outcome
+    came_out c.args.mode.now c.args.script.now (sink c.args.out.now) (sink d.new.out) c.args.journal.now d.new.journal trip d.result.0 c.args.mode.now.scrubs refl d.ensures.outcome
 
 pub returns-in-Ok-clause-home : goal.returns-in-Ok-clause-home
 returns-in-Ok-clause-home g c tells =
     let saw = shelf_by g.H.Shelf.tells g.H.Shelf.image g.H.Shelf.out g.H.Shelf.faults g.H.Shelf.disk_faults g.H.Shelf.fetches g.H.Shelf.returns g.H.Shelf.last_size in
-    let d = c.run_on_disks-outcome in
+    let d = c.run_in_mode-outcome in
     let back = c.give_back_images.ensures in
     let trip : Trip g.H.Disk.Disk.bytes g.H.Disk.Disk.faults g.H.Disk.Disk.faults_at_fetch g.H.Disk.Disk.home g.H.Disk.Disk.image g.H.Disk.Disk.sound c.args.names.now
     c.in-Ok.disks.items d.result.1.items (saw c.args.shelf.now) (saw c.fetch_images.new.shelf) (saw c.give_back_images.new.shelf) = record {
@@ -79,7 +79,7 @@ returns-in-Ok-clause-home g c tells =
 pub returns-in-Ok-clause-sound : goal.returns-in-Ok-clause-sound
 returns-in-Ok-clause-sound g c all =
     let saw = shelf_by g.H.Shelf.tells g.H.Shelf.image g.H.Shelf.out g.H.Shelf.faults g.H.Shelf.disk_faults g.H.Shelf.fetches g.H.Shelf.returns g.H.Shelf.last_size in
-    let d = c.run_on_disks-outcome in
+    let d = c.run_in_mode-outcome in
     let back = c.give_back_images.ensures in
     let trip : Trip g.H.Disk.Disk.bytes g.H.Disk.Disk.faults g.H.Disk.Disk.faults_at_fetch g.H.Disk.Disk.home g.H.Disk.Disk.image g.H.Disk.Disk.sound c.args.names.now
     c.in-Ok.disks.items d.result.1.items (saw c.args.shelf.now) (saw c.fetch_images.new.shelf) (saw c.give_back_images.new.shelf) = record {
@@ -110,7 +110,7 @@ returns-in-Ok-clause-sound g c all =
 
 pub returns-in-Ok-clause-back : goal.returns-in-Ok-clause-back
 returns-in-Ok-clause-back g c =
-    let d = c.run_on_disks-outcome in
+    let d = c.run_in_mode-outcome in
     let back = c.give_back_images.ensures in
     let len : length d.result.1.items ≡ length c.args.names.now =
     used_length g.H.Disk.Disk.bytes c.in-Ok.disks.items d.result.1.items d.ensures.same.sizes ∙ c.in-Ok.ensures.all in

@@ -8,7 +8,7 @@ pub returns-in-Ended-clause-ends : goal.returns-in-Ended-clause-ends
 returns-in-Ended-clause-ends g c =
     let sink = sink_by g.O.Sink.holds g.O.Sink.faults in
     let saw = shelf_by g.H.Shelf.tells g.H.Shelf.image g.H.Shelf.out g.H.Shelf.faults g.H.Shelf.disk_faults g.H.Shelf.fetches g.H.Shelf.returns g.H.Shelf.last_size in
-    ended_ends c.args.show.now c.args.script.now c.args.names.now (sink c.args.out.now) (sink c.run_on_shelf.new.out)
+    ended_ends c.args.mode.now c.args.script.now c.args.names.now (sink c.args.out.now) (sink c.run_on_shelf.new.out)
     (saw c.args.shelf.now) (saw c.run_on_shelf.new.shelf) c.args.journal.now c.run_on_shelf.new.journal c.in-Ended.ending c.code_of.result
     c.code_of.ensures c.in-Ended.ensures.outcome
 
@@ -16,7 +16,7 @@ pub returns-in-Unfit-clause-ends : goal.returns-in-Unfit-clause-ends
 returns-in-Unfit-clause-ends g c =
     let sink = sink_by g.O.Sink.holds g.O.Sink.faults in
     let saw = shelf_by g.H.Shelf.tells g.H.Shelf.image g.H.Shelf.out g.H.Shelf.faults g.H.Shelf.disk_faults g.H.Shelf.fetches g.H.Shelf.returns g.H.Shelf.last_size in
-    unfit_ends c.args.show.now c.args.script.now c.args.names.now (sink c.args.out.now) (sink c.refuse_image.new.out)
+    unfit_ends c.args.mode.now c.args.script.now c.args.names.now (sink c.args.out.now) (sink c.refuse_image.new.out)
     (saw c.args.shelf.now) (saw c.run_on_shelf.new.shelf) c.args.journal.now c.run_on_shelf.new.journal c.in-Unfit.leaf c.refuse_image.result.code
     c.in-Unfit.ensures.outcome
     (subst (λ o. Ends 3 (images_line c.in-Unfit.leaf) c.refuse_image.result.code (g.O.Sink.faults o) (g.O.Sink.faults c.refuse_image.new.out) (g.O.Sink.holds o) (g.O.Sink.holds c.refuse_image.new.out))
@@ -26,6 +26,6 @@ pub returns-in-Cut-clause-ends : goal.returns-in-Cut-clause-ends
 returns-in-Cut-clause-ends g c =
     let sink = sink_by g.O.Sink.holds g.O.Sink.faults in
     let saw = shelf_by g.H.Shelf.tells g.H.Shelf.image g.H.Shelf.out g.H.Shelf.faults g.H.Shelf.disk_faults g.H.Shelf.fetches g.H.Shelf.returns g.H.Shelf.last_size in
-    cut_ends c.args.show.now c.args.script.now c.args.names.now (sink c.args.out.now) (sink c.run_on_shelf.new.out)
+    cut_ends c.args.mode.now c.args.script.now c.args.names.now (sink c.args.out.now) (sink c.run_on_shelf.new.out)
     (saw c.args.shelf.now) (saw c.run_on_shelf.new.shelf) c.args.journal.now c.run_on_shelf.new.journal c.in-Cut.fault c.code_for.result
     c.code_for.ensures c.in-Cut.ensures.outcome

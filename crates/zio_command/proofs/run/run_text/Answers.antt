@@ -24,7 +24,7 @@ returns-in-Err-Fault-clause-ends g c =
     let reason = rw c.in-Err-Fault.field-0-is at c.in-Err-Fault.ensures.fault in
     let ends = rw c.in-Err-Fault.fault-is at c.refuse_script.ensures in
     let fault = c.in-Err-Fault.fault in
-    refused_ends (λ told. told ≡ c.args.text.now) c.args.show.now c.args.names.now (sink c.args.out.now) (sink c.refuse_script.new.out)
+    refused_ends (λ told. told ≡ c.args.text.now) c.args.mode.now c.args.names.now (sink c.args.out.now) (sink c.refuse_script.new.out)
     (saw c.args.shelf.now) (saw c.args.shelf.now) c.args.journal.now c.args.journal.now fault c.refuse_script.result.code
     (λ text is. subst (λ (t : List ℕ). IsFaultOf t fault) (sym is) reason) (untouched_itself (saw c.args.shelf.now)) refl ends
 

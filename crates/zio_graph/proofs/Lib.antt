@@ -27,3 +27,4 @@ pub mod UsedUp
 pub mod WholeBlocks
 pub mod Wrapped
 pub mod WrittenBlocks
+pub mod WroteRounds

@@ -24,7 +24,7 @@ use Rattle.zio_graph.proofs.Sounds.{joined_flat}
 
 -- ---- what the requests name
 
-named_are : (trees : List (List Pending)) (f : Forest) → trees_of f ≡ trees → named_places trees ≡ places_named f
+pub named_are : (trees : List (List Pending)) (f : Forest) → trees_of f ≡ trees → named_places trees ≡ places_named f
 named_are trees f is =
     ap (λ (ps : List Pending). flat_map (λ (p : Pending). places_of_block p.block) ps) (ap joined_trees (sym is) ∙ joined_flat f)
 
@@ -32,7 +32,7 @@ block_inside : (P : Place → Type 0) (block : Option Tree) → IfSome block (λ
 block_inside P None h = tt
 block_inside P (Some tree) h = subst (AllByRecursion P) (sym (append-nil (tree_places tree))) h
 
-named_inside : (t : Terms) (ps : List Pending) → AllByRecursion (λ (p : Pending). IfSome p.block (IsOwnBlock (sizes_of t.setting.tops) t.used)) ps
+pub named_inside : (t : Terms) (ps : List Pending) → AllByRecursion (λ (p : Pending). IfSome p.block (IsOwnBlock (sizes_of t.setting.tops) t.used)) ps
     → AllByRecursion (λ (q : Place). IsTrue (is_inside (sizes_of t.setting.tops) q)) (flat_map (λ (p : Pending). block_places p.block) ps)
 named_inside t [] h = tt
 named_inside t (p ∷ ps) h =
@@ -46,7 +46,7 @@ named_inside t (p ∷ ps) h =
 
 -- ---- what was taken
 
-free_of : (used : List Place) (p : Place) → ((q : Place) → Contains used q → meets p q ≡ false) → IsTrue (is_free used p)
+pub free_of : (used : List Place) (p : Place) → ((q : Place) → Contains used q → meets p q ≡ false) → IsTrue (is_free used p)
 free_of used p apart =
     pass_all (λ (q : Place). not (meets p q)) used
     (all_weaker (Contains used) (λ (q : Place). IsTrue (not (meets p q))) used (λ q there. ap not (apart q there)) (all_contained used))

@@ -1,9 +1,10 @@
 -- Where one disk of several was made stable, or tried.
-use Rattle.std.proofs.Common.{◌≡◌, ℕ, List, [], ◌∷◌, map, ap}
+use Rattle.std.proofs.Common.{◌≡◌, ℕ, ◌≤◌, List, [], ◌∷◌, map, ap, inl, arith}
+use Rattle.zio_outside.specs.declared.written.Written.{Written}
 use Rattle.zio_outside.specs.Outside.{Keeps}
 use Rattle.zio_disks.specs.Disks.{AreSameDisks}
 use Rattle.zio_disks.proofs.DiskLemmas.{same_itself}
-use Rattle.zio_graph.specs.Stable.{KeepImages}
+use Rattle.zio_graph.specs.Stable.{AreSynced, IsSynced, KeepImages}
 
 images_itself : {D : Type 0} (image : D → List ℕ → Type 0) (disks : List D) → KeepImages image disks disks
 images_itself image [] = tt
@@ -25,3 +26,20 @@ first_same bytes faults faults_at_fetch home image sound old new rest size fetch
       told = ((λ content is. (content, (images content).0 is)), still.told);
       stay = (sounds, still.stay);
     }
+
+module _ {D : Type 0} (went : List Written → D → D → Type 0) (moment : D → ℕ) (left_since : D → ℕ → List ℕ → Type 0)
+    (image : D → List ℕ → Type 0) where
+  pub synced_itself : (disk : D) → IsSynced {D = D} went moment left_since image disk disk
+  synced_itself disk = record {
+    later = omega arith;
+    crash = λ asked earlier content w left. inl left;
+    earlier = λ t content left. left;
+  }
+
+  pub all_synced : (disks : List D) → AreSynced {D = D} went moment left_since image disks disks
+  all_synced [] = tt
+  all_synced (disk ∷ disks) = (synced_itself disk, all_synced disks)
+
+  pub first_synced : (old new : D) (rest : List D) → IsSynced {D = D} went moment left_since image old new
+      → AreSynced {D = D} went moment left_since image (old ∷ rest) (new ∷ rest)
+  first_synced old new rest h = (h, all_synced rest)

@@ -5,6 +5,7 @@ use Rattle.std.specs.Prelude.{◌%◌, ◌==◌}
 use Rattle.std.proofs.lemmas.Bool.{and_parts}
 use Rattle.std.proofs.lemmas.List.{map-id}
 use Rattle.zio_types.specs.declared.place.Top.{Top}
+use Rattle.zio_outside.specs.declared.written.Written.{Written}
 use Rattle.zio_types.specs.Places.{is_lawful_top, is_unit}
 use Rattle.zio_blkptr.specs.declared.pointer.TheConstants.{BLOCK_SIZE_MAX}
 use Rattle.zio_script.specs.declared.script.Failmode.{Failmode}
@@ -25,7 +26,9 @@ use Rattle.zio_exchange.specs.declared.waiting.UnfinishedRequest.{UnfinishedRequ
 use Rattle.zio_stages.specs.PartWorks.{HaveUnits}
 use Rattle.zio_exchange.specs.declared.outcome.FinishedRequest.{FinishedRequest}
 use Rattle.zio_nodes.specs.TreeAts.{IsRequestInside, IsTreeOver}
+use Rattle.zio_turns.specs.Wrote.{Wrote}
 use Rattle.zio_turns.specs.declared.grounds.Grounds.{Grounds}
+use Rattle.zio_graph.specs.Crashes.{MayWrite, SparesAll}
 use Rattle.zio_graph.specs.Ends.{told_of}
 use Rattle.zio_graph.specs.EngineTrees.{IsWithinLimits}
 use Rattle.zio_graph.specs.Graphs.{SeenGraph, standing_of}
@@ -176,6 +179,21 @@ module _ {D : Type 0} (faults : D → ℕ) (image : D → List ℕ → Type 0) (
         subst (λ (ds : List D). TellLoose {D = D} image (idle (standing_of faults p)) (as_trees trees) ds now) b.disks
         (subst (λ (ts : List (List Pending)). TellLoose {D = D} image (idle (standing_of faults p)) ts g.disks.items now) given
         (subst (λ (s : Standing). TellLoose {D = D} image s (map pendings wholes) g.disks.items now) known h))
+
+    module _ (went : List Written → D → D → Type 0) (now : List D) where
+      pub wrote_seen : Wrote {D = D} went (MayWrite (standing_on faults g) (map pendings wholes)) g.disks.items now
+          → Wrote {D = D} went (MayWrite (standing_of faults p) (as_trees trees)) p.disks now
+      wrote_seen h =
+          subst (λ (ds : List D). Wrote {D = D} went (MayWrite (idle (standing_of faults p)) (as_trees trees)) ds now) b.disks
+          (subst (λ (ts : List (List Pending)). Wrote {D = D} went (MayWrite (idle (standing_of faults p)) ts) g.disks.items now) given
+          (subst (λ (s : Standing). Wrote {D = D} went (MayWrite s (map pendings wholes)) g.disks.items now) known h))
+
+      pub spares_seen : SparesAll {D = D} image went (standing_on faults g) (map pendings wholes) g.disks.items now
+          → SparesAll {D = D} image went (standing_of faults p) (as_trees trees) p.disks now
+      spares_seen h =
+          subst (λ (ds : List D). SparesAll {D = D} image went (idle (standing_of faults p)) (as_trees trees) ds now) b.disks
+          (subst (λ (ts : List (List Pending)). SparesAll {D = D} image went (idle (standing_of faults p)) ts g.disks.items now) given
+          (subst (λ (s : Standing). SparesAll {D = D} image went s (map pendings wholes) g.disks.items now) known h))
 
     module _ (e : RoundEnd (List UnfinishedRequest) FinishedRequest) (end : RoundEnd (List Pending) FinishedRequest) (seen : IsSeenEnd e end) where
       pub round_seen : (failmode : Failmode) (round : ℕ) (now : List D)

@@ -1,3 +1,4 @@
+pub mod Crashes
 pub mod EngineTrees
 pub mod Ends
 pub mod Graphs

@@ -4,7 +4,7 @@ ghost use Rattle.std.specs.Prelude.{◌≡◌, OnErr, OnOk, map};
 ghost use Rattle.zio_cksum.specs.Images.{Images};
 ghost use Rattle.zio_disks.specs.Disks.{AnyRose, AreSameDisks, Tell};
 ghost use Rattle.zio_graph.specs.Graphs.{AreReadyGrounds};
-ghost use Rattle.zio_graph.specs.Stable.{AreStable, KeepImages};
+ghost use Rattle.zio_graph.specs.Stable.{AreStable, AreSynced, KeepImages};
 
 use zio_outside::{Failed, SyncDisk};
 use zio_turns::Grounds;
@@ -14,6 +14,7 @@ pub(crate) fn flush_grounds<D: SyncDisk + Drop>(grounds: &mut Grounds<D>) -> Res
     ensures stable { OnOk result ((images : Images) → Tell D.image grounds.old.disks.items images
         → AreStable D.keeps grounds.new.disks.items images) }
     ensures images { KeepImages D.image grounds.old.disks.items grounds.new.disks.items }
+    ensures synced { AreSynced D.went D.moment D.left_since D.image grounds.old.disks.items grounds.new.disks.items }
     ensures failed { OnErr result
         (AnyRose (map D.faults grounds.old.disks.items) (map D.faults grounds.new.disks.items)) }
     ensures steady { OnOk result (map D.faults grounds.new.disks.items ≡ map D.faults grounds.old.disks.items) }
@@ -31,6 +32,7 @@ fn sync_all<D: SyncDisk>(disks: &mut [D]) -> Result<(), Failed>
     ensures stable { OnOk result ((images : Images) → Tell D.image disks.old images
         → AreStable D.keeps disks.new images) }
     ensures images { KeepImages D.image disks.old disks.new }
+    ensures synced { AreSynced D.went D.moment D.left_since D.image disks.old disks.new }
     ensures failed { OnErr result (AnyRose (map D.faults disks.old) (map D.faults disks.new)) }
     ensures steady { OnOk result (map D.faults disks.new ≡ map D.faults disks.old) }
     ensures same { AreSameDisks D.bytes D.faults D.faults_at_fetch D.home D.image D.sound disks.old disks.new }

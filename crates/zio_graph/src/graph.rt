@@ -22,9 +22,11 @@ ghost use Rattle.zio_course.specs.Runners.{
   terms_at,
   tree_over,
 };
+ghost use Rattle.zio_turns.specs.Wrote.{Wrote};
+ghost use Rattle.zio_graph.specs.Crashes.{MayWrite, SparesAll};
 ghost use Rattle.zio_graph.specs.Ends.{told_of};
 ghost use Rattle.zio_graph.specs.Graphs.{CanRun, standing_of};
-ghost use Rattle.zio_graph.specs.Stable.{AreStable, KeepImages};
+ghost use Rattle.zio_graph.specs.Stable.{AreStable, AreSynced, KeepImages};
 
 use crate::flush::flush_grounds;
 use crate::tree::{EngineTree, tree_over, trees_of, wholes_of};
@@ -145,6 +147,14 @@ impl<D: Disk + Drop, P: Picks + Drop, H: Helper<NodeBox> + Drop> Graph<D, P, H> 
             × Tell D.image self.new.disks after
             × DiffersInRound (standing_of D.faults self.old)
             (map (λ (tree : Seq Pending). tree) job.trees) before after) }
+
+        // What went to each disk lies, byte by byte, at places that were free or that blocks of the trees have. Of each
+        // piece of a block in use that had a good copy none of it is one such copy's.
+        ensures wrote { Wrote D.went
+            (MayWrite (standing_of D.faults self.old) (map (λ (tree : Seq Pending). tree) job.trees))
+            self.old.disks self.new.disks }
+        ensures spares { SparesAll D.image D.went (standing_of D.faults self.old)
+            (map (λ (tree : Seq Pending). tree) job.trees) self.old.disks self.new.disks }
         ensures same { AreSameDisks D.bytes D.faults D.faults_at_fetch D.home D.image D.sound self.old.disks
             self.new.disks }
     {
@@ -192,11 +202,13 @@ impl<D: Disk + Drop, P: Picks + Drop, H: Helper<NodeBox> + Drop> Graph<D, P, H> 
 
 impl<D: SyncDisk + Drop, P: Picks + Drop, H: Helper<NodeBox> + Drop> Graph<D, P, H> {
     /// Makes the images of all disks stable, also of those that no top names, in their order and up to the first that
-    /// fails. No image changes, and nothing else of the engine.
+    /// fails. No image changes, and nothing else of the engine. A crash meanwhile leaves of each disk what one before
+    /// might have left, or its image.
     pub fn flush(&mut self) -> Result<(), Failed>
         ensures stable { OnOk result ((images : Images) → Tell D.image self.old.disks images
             → AreStable D.keeps self.new.disks images) }
         ensures images { KeepImages D.image self.old.disks self.new.disks }
+        ensures synced { AreSynced D.went D.moment D.left_since D.image self.old.disks self.new.disks }
         ensures failed { OnErr result (AnyRose (map D.faults self.old.disks) (map D.faults self.new.disks)) }
         ensures steady { OnOk result (map D.faults self.new.disks ≡ map D.faults self.old.disks) }
         ensures same { AreSameDisks D.bytes D.faults D.faults_at_fetch D.home D.image D.sound self.old.disks

@@ -10,6 +10,8 @@ ghost use Rattle.zio_course.specs.Runners.{AreRunnable, DiffersInRound, IsRound,
 ghost use Rattle.zio_exchange.specs.Waits.{pendings};
 ghost use Rattle.zio_exchange.specs.declared.waiting.UnfinishedRequest.{UnfinishedRequest};
 ghost use Rattle.zio_turns.specs.UnderTrees.{StateIn};
+ghost use Rattle.zio_turns.specs.Wrote.{Wrote};
+ghost use Rattle.zio_graph.specs.Crashes.{MayWrite, SparesAll};
 ghost use Rattle.zio_graph.specs.Ends.{told_of};
 ghost use Rattle.zio_graph.specs.EngineTrees.{IsEngineTree, IsWithinLimits};
 ghost use Rattle.zio_graph.specs.InUse.{LeavesInUse};
@@ -29,7 +31,8 @@ use zio_types::List;
 /// Runs a round of these trees, in whatever order is picked, until each finished or is suspended.
 ///
 /// It is stopped by a device exactly where a disk's count of faults rose, else for want of memory; then the grounds
-/// aren't to be used for a round.
+/// aren't to be used for a round. However it ends, no byte was written but of places that were free and of blocks that
+/// the trees name, and of each piece of a block in use a good copy was spared.
 pub(crate) fn run_wholes<N: Staged, D: Disk + Drop, P: Picks, H: Helper<N>>(
     grounds: &mut Grounds<D>,
     picks: &mut P,
@@ -64,6 +67,10 @@ pub(crate) fn run_wholes<N: Staged, D: Disk + Drop, P: Picks, H: Helper<N>>(
     ensures faults { OnOk result (map D.faults grounds.new.disks.items ≡ map D.faults grounds.old.disks.items) }
     ensures images { OnErr result (TellLoose D.image (standing_on D.faults grounds.old) (map pendings wholes)
         grounds.old.disks.items grounds.new.disks.items) }
+    ensures wrote { Wrote D.went (MayWrite (standing_on D.faults grounds.old) (map pendings wholes))
+        grounds.old.disks.items grounds.new.disks.items }
+    ensures spares { SparesAll D.image D.went (standing_on D.faults grounds.old) (map pendings wholes)
+        grounds.old.disks.items grounds.new.disks.items }
     ensures device { IsErrOf result Stop.Device →
         AnyRose (map D.faults grounds.old.disks.items) (map D.faults grounds.new.disks.items) }
     ensures calm { IsErrOf result Stop.Memory →
@@ -120,6 +127,10 @@ fn run_to_end<N: Staged, D: Disk + Drop, P: Picks, H: Helper<N>>(
     ensures faults { OnOk result (map D.faults grounds.new.disks.items ≡ map D.faults grounds.old.disks.items) }
     ensures images { TellLoose D.image (standing_on D.faults grounds.old) (map pendings wholes) grounds.old.disks.items
         grounds.new.disks.items }
+    ensures wrote { Wrote D.went (MayWrite (standing_on D.faults grounds.old) (map pendings wholes))
+        grounds.old.disks.items grounds.new.disks.items }
+    ensures spares { SparesAll D.image D.went (standing_on D.faults grounds.old) (map pendings wholes)
+        grounds.old.disks.items grounds.new.disks.items }
     ensures device { IsErrOf result Stop.Device →
         AnyRose (map D.faults grounds.old.disks.items) (map D.faults grounds.new.disks.items) }
     ensures calm { IsErrOf result Stop.Memory →

@@ -1,5 +1,5 @@
 -- What a crash may leave has a good copy of each piece that had one.
-use Rattle.std.proofs.Common.{◌≡◌, ℕ, ◌*◌, ◌≤◌, List, [], ◌∷◌, ◌++◌, false, Option, Some, None, IfSome, IsTrue, Contains, ◌⊎◌, ⊎_elim, sym, subst}
+use Rattle.std.proofs.Common.{◌≡◌, ℕ, ◌+◌, ◌*◌, ◌<◌, ◌≤◌, List, [], ◌∷◌, ◌++◌, false, Option, Some, None, IfSome, IsTrue, Contains, ◌⊎◌, ⊎_elim, sym, subst, arith}
 use Rattle.std.proofs.lemmas.List.Elements.{Contains-append_cases}
 use Rattle.std.specs.List.{AllByRecursion, flat_map}
 use Rattle.zio_types.specs.declared.place.Place.{Place}
@@ -31,10 +31,10 @@ use Rattle.zio_trace.proofs.PlaceLemmas.{DontMeet, inside_dont}
 use Rattle.zio_trace.proofs.SeparateLemmas.{copies_places}
 use Rattle.zio_trace.proofs.SoundLemmas.{OwnBlock, block_of, own_of}
 use Rattle.zio_trace.proofs.SpotLemmas.{IsCopy, dont_turned, is_copy, places_clear}
-use Rattle.zio_spared.specs.Crashes.{MayBeLeft, spots_written, written_by}
-use Rattle.zio_spared.specs.Spared.{HasGood, HasSpared, IsGoodIn, IsNamedPiece, NoFlips, StoresClear}
-use Rattle.zio_spared.proofs.KeptBytes.{kept_there}
-use Rattle.zio_spared.proofs.RoundSpares.{has_spared}
+use Rattle.zio_spared.specs.Crashes.{HasUnwritten, MayBeLeft, spots_written, written_by}
+use Rattle.zio_spared.specs.Spared.{HasGood, HasSpared, IsGoodIn, IsNamedPiece, IsSpared, KeepsCopy, NoFlips, StoresClear}
+use Rattle.zio_spared.proofs.KeptBytes.{in_one, kept_there}
+use Rattle.zio_spared.proofs.RoundSpares.{has_spared, keeps_copy}
 use Rattle.zio_spared.proofs.WritesWithin.{all_written, writes_within}
 
 -- each copy has room for the bytes
@@ -64,17 +64,36 @@ clear_written spot (Leaf (Store retry bytes u)) h = (h, tt)
 clear_written spot (Leaf (Fetch retry n u)) h = tt
 clear_written spot _ h = tt
 
+-- all writes are clear of a copy that is spared
+spared_clear : (before : Images) (c : Copies) (spot : Spot) (s : State) → IsSpared before c spot s → AllByRecursion (AreClear spot) (spots_written s)
+spared_clear before c spot s h =
+    all_append (AreClear spot) (flat_map (λ (d : Deed (Labelled Task) Value). written_by d.op.op) s.deeds) (flat_map (λ (x : Flight). written_by x.op.op) s.flights)
+    (all_written (AreClear spot) (λ (d : Deed (Labelled Task) Value). written_by d.op.op) s.deeds
+    (all_weaker (λ (d : Deed (Labelled Task) Value). StoresClear spot d.op.op) (λ (d : Deed (Labelled Task) Value). AllByRecursion (AreClear spot) (written_by d.op.op)) s.deeds (λ d k. clear_written spot d.op.op k) h.deeds))
+    (all_written (AreClear spot) (λ (x : Flight). written_by x.op.op) s.flights
+    (all_weaker (λ (x : Flight). StoresClear spot x.op.op) (λ (x : Flight). AllByRecursion (AreClear spot) (written_by x.op.op)) s.flights (λ x k. clear_written spot x.op.op k) h.flights))
+
 pub named_survive : (t : Terms) (sizes : ℕ → ℕ) (f : Forest) (before after : Images) (s : State) (c : Copies) → IsSoundRound t sizes f → HaveSizes sizes before → NoFlips t.setting.rows → IsUnderway (work_of t sizes f) (Some before) s → IsNamedPiece f c
     → MayBeLeft before s after → HasGood t.setting before c → HasGood t.setting after c
 named_survive t sizes f before after s c round have flips under named left good =
     let one : HasSpared t.setting before c s = has_spared t sizes f before c round have flips named good s under in
     left_good t.setting before after s c one.spot one.listed (piece_room named.tree c (own_of t sizes f round named.named.0 named.tree named.named.1 named.named.2).sound.room named.piece)
-    (all_append (AreClear one.spot) (flat_map (λ (d : Deed (Labelled Task) Value). written_by d.op.op) s.deeds) (flat_map (λ (x : Flight). written_by x.op.op) s.flights)
-    (all_written (AreClear one.spot) (λ (d : Deed (Labelled Task) Value). written_by d.op.op) s.deeds
-    (all_weaker (λ (d : Deed (Labelled Task) Value). StoresClear one.spot d.op.op) (λ (d : Deed (Labelled Task) Value). AllByRecursion (AreClear one.spot) (written_by d.op.op)) s.deeds (λ d k. clear_written one.spot d.op.op k) one.spared.deeds))
-    (all_written (AreClear one.spot) (λ (x : Flight). written_by x.op.op) s.flights
-    (all_weaker (λ (x : Flight). StoresClear one.spot x.op.op) (λ (x : Flight). AllByRecursion (AreClear one.spot) (written_by x.op.op)) s.flights (λ x k. clear_written one.spot x.op.op k) one.spared.flights)))
-    left one.good
+    (spared_clear before c one.spot s one.spared) left one.good
+
+-- of the one that is spared throughout no byte is written
+pub named_unwritten : (t : Terms) (sizes : ℕ → ℕ) (f : Forest) (before : Images) (c : Copies) → IsSoundRound t sizes f → HaveSizes sizes before → NoFlips t.setting.rows → IsNamedPiece f c → HasGood t.setting before c
+    → HasUnwritten t sizes f (Some before) before c
+named_unwritten t sizes f before c round have flips named good =
+    let one : KeepsCopy t sizes f before c = keeps_copy t sizes f before c round have flips named good in
+    let room : c.len ≤ one.spot.span = room_of t.setting c.len c.places one.spot (piece_room named.tree c (own_of t sizes f round named.named.0 named.tree named.named.1 named.named.2).sound.room named.piece) one.listed in record {
+      spot = one.spot;
+      listed = one.listed;
+      good = one.good;
+      unwritten = λ at from below w.
+          in_one one.spot w.written.spot at
+          (all_contains (AreClear one.spot) (spots_written w.moment) w.written.spot (spared_clear before c one.spot w.moment (one.spared w.moment w.under)) w.written.listed)
+          w.written.same_leaf from (omega (arith, room, below)) w.written.from w.written.below;
+    }
 
 -- ---- others in use
 
@@ -126,3 +145,17 @@ pub others_survive : (t : Terms) (sizes : ℕ → ℕ) (f : Forest) (told : Opti
     → NoneMeet (tree_places tree) (places_named f) → Contains (copies_of tree) c → MayBeLeft before s after → HasGood t.setting before c → HasGood t.setting after c
 others_survive t sizes f told before after s tree c round under block none is left good =
     left_good t.setting before after s c good.spot good.listed (piece_room tree c block.room is) (untouched t sizes f round told s under tree block none c is good.spot good.listed) left good.good
+
+-- of none of its copies a byte is written
+pub others_unwritten : (t : Terms) (sizes : ℕ → ℕ) (f : Forest) (told : Option Images) (before : Images) (tree : Tree) (c : Copies) → IsSoundRound t sizes f → IsSoundBlock (sizes_of t.setting.tops) t.used tree
+    → NoneMeet (tree_places tree) (places_named f) → Contains (copies_of tree) c → HasGood t.setting before c → HasUnwritten t sizes f told before c
+others_unwritten t sizes f told before tree c round block none is good =
+    let room : c.len ≤ good.spot.span = room_of t.setting c.len c.places good.spot (piece_room tree c block.room is) good.listed in record {
+      spot = good.spot;
+      listed = good.listed;
+      good = good.good;
+      unwritten = λ at from below w.
+          in_one good.spot w.written.spot at
+          (all_contains (AreClear good.spot) (spots_written w.moment) w.written.spot (untouched t sizes f round told w.moment w.under tree block none c is good.spot good.listed) w.written.listed)
+          w.written.same_leaf from (omega (arith, room, below)) w.written.from w.written.below;
+    }

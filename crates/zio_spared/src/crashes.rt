@@ -11,7 +11,7 @@ ghost use Rattle.zio_trace.specs.Separate.{IsSoundBlock, NoneMeet};
 ghost use Rattle.zio_trace.specs.SoundRounds.{IsSoundRound, work_of};
 ghost use Rattle.zio_trace.specs.Stopped.{places_named, spots_touched};
 ghost use Rattle.zio_trace.specs.Underway.{IsUnderway, State};
-ghost use Rattle.zio_spared.specs.Crashes.{MayBeLeft, spots_written};
+ghost use Rattle.zio_spared.specs.Crashes.{HasUnwritten, MayBeLeft, spots_written};
 ghost use Rattle.zio_spared.specs.Spared.{HasGood, IsNamedPiece, NoFlips};
 
 /// At every moment of a round all that was written, or is being written, lies at places of blocks that its requests
@@ -35,4 +35,17 @@ pub fn good_copies_survive_a_crash()
         IsSoundBlock (sizes_of t.setting.tops) t.used tree → NoneMeet (tree_places tree) (places_named f) →
         Contains (copies_of tree) c → MayBeLeft before s after →
         HasGood t.setting before c → HasGood t.setting after c }
+{}
+
+/// The same byte by byte, over all moments of a sound round: of each piece of a block in use that had a good copy, there
+/// is one such copy of which no byte is written at any moment. A byte of a block that the round names is so where no row
+/// turns bytes.
+pub fn good_copies_are_never_written()
+    ensures named { (t : Terms) (sizes : ℕ → ℕ) (f : Forest) (before : Images) (c : Copies) →
+        IsSoundRound t sizes f → HaveSizes sizes before → NoFlips t.setting.rows →
+        IsNamedPiece f c → HasGood t.setting before c → HasUnwritten t sizes f (Some before) before c }
+    ensures others { (t : Terms) (sizes : ℕ → ℕ) (f : Forest) (told : Option Images) (before : Images) (tree : Tree)
+        (c : Copies) → IsSoundRound t sizes f → IsSoundBlock (sizes_of t.setting.tops) t.used tree →
+        NoneMeet (tree_places tree) (places_named f) → Contains (copies_of tree) c →
+        HasGood t.setting before c → HasUnwritten t sizes f told before c }
 {}

@@ -10,7 +10,10 @@ mod crashes;
 mod examples;
 mod laws;
 
-pub use crashes::{good_copies_survive_a_crash, writes_lie_at_places_that_are_named_or_found};
+pub use crashes::{
+    good_copies_are_never_written, good_copies_survive_a_crash,
+    writes_lie_at_places_that_are_named_or_found,
+};
 pub use examples::{
     a_repair_in_flight_spares_the_good_copy, a_row_that_turns_bytes_spares_no_copy,
 };

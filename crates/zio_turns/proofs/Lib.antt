@@ -32,6 +32,7 @@ pub mod Kept
 pub mod KeyLengths
 pub mod KeyTimes
 pub mod LeafCalls
+pub mod LeafFlights
 pub mod LeafOps
 pub mod LedgerChildren
 pub mod LedgerDids
@@ -93,3 +94,4 @@ pub mod TurnLoops
 pub mod TurnMoves
 pub mod Waits
 pub mod Withins
+pub mod WroteLemmas

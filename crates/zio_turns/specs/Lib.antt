@@ -19,3 +19,4 @@ pub mod Slabs
 pub mod Stops
 pub mod UnderTrees
 pub mod UnderTurns
+pub mod Wrote

@@ -7,6 +7,7 @@ ghost use Rattle.zio_disks.specs.Disks.{AnyRose, AreSameDisks};
 ghost use Rattle.zio_turns.specs.Slabs.{AreAll};
 ghost use Rattle.zio_turns.specs.Stops.{TreesStopWith};
 ghost use Rattle.zio_turns.specs.UnderTrees.{RunsSome, RunsToEnd, StateIn};
+ghost use Rattle.zio_turns.specs.Wrote.{TreesTellWrote};
 
 use crate::grounds::Grounds;
 use crate::hearing::run_to_tree;
@@ -24,7 +25,7 @@ use zio_staged::Staged;
 /// terms goes on until it is over, whatever is picked: then no node is left, and no tree is under way. The requests
 /// that finish are added in order of their completion, a child's before its parent's. It is stopped by a device exactly
 /// where a disk's count of faults rose. Wherever it is stopped, the images have changed only in blocks that the round's
-/// requests name, and at places that met none in use.
+/// requests name, and at places that met none in use. However it ends, no byte was written but the round's own.
 pub fn run_trees<N: Staged, D: Disk + Drop, P: Picks, H: Helper<N>>(
     turns: &mut Turns<N>,
     grounds: &mut Grounds<D>,
@@ -55,6 +56,8 @@ pub fn run_trees<N: Staged, D: Disk + Drop, P: Picks, H: Helper<N>>(
     ensures stopped { OnErr result
         (TreesStopWith N.nodes D.bytes D.image turns.old.nodes turns.old.line grounds.old round failmode
         trees.old.items grounds.new.disks.items) }
+    ensures wrote { TreesTellWrote N.nodes D.bytes D.image D.went turns.old.nodes turns.old.line grounds.old round
+        failmode trees.old.items grounds.new.disks.items }
     ensures tops { grounds.new.desk.tops ≡ grounds.old.desk.tops }
     ensures setting { grounds.new.setting ≡ grounds.old.setting }
 {

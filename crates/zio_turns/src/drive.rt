@@ -6,6 +6,7 @@ ghost use Rattle.zio_turns.specs.AtLeaves.{keys_at};
 ghost use Rattle.zio_turns.specs.Slabs.{AreAll};
 ghost use Rattle.zio_turns.specs.Stops.{StopsWith};
 ghost use Rattle.zio_turns.specs.UnderTurns.{GoesOnSome, IsDone, RunsOn, TurnedIn, work_left};
+ghost use Rattle.zio_turns.specs.Wrote.{TellWrote};
 ghost use Rattle.zio_turns.specs.declared.turn.Turned.TheVariants.{Nothing};
 
 use crate::grounds::Grounds;
@@ -23,7 +24,8 @@ use zio_staged::Staged;
 /// Runs until a turn has something to tell, or no key is queued and nothing waits at the leaves. The choices are the
 /// queued keys in their order, as many as a pick can tell apart, then each leaf that has a group to issue, in order of
 /// the leaves. Before a turn the helper may reckon ahead, for which groups may come first. Each sound round that goes on
-/// goes on, whatever is picked. It is stopped by a device exactly where a disk's count of faults rose.
+/// goes on, whatever is picked. It is stopped by a device exactly where a disk's count of faults rose. However it ends, no
+/// byte was written but the round's own.
 pub fn run_on<N: Staged, D: Disk + Drop, P: Picks, H: Helper<N>>(
     turns: &mut Turns<N>,
     grounds: &mut Grounds<D>,
@@ -52,6 +54,8 @@ pub fn run_on<N: Staged, D: Disk + Drop, P: Picks, H: Helper<N>>(
         map D.faults grounds.new.disks.items ≡ map D.faults grounds.old.disks.items }
     ensures stopped { OnErr result
         (StopsWith N.nodes D.bytes D.image turns.old.nodes turns.old.line grounds.old grounds.new.disks.items) }
+    ensures wrote { TellWrote N.nodes D.bytes D.image D.went turns.old.nodes turns.old.line grounds.old
+        grounds.new.disks.items }
     ensures inside { IfOk result (TurnedIn (N.tree_over grounds.old.desk.tops)) }
     ensures tops { grounds.new.desk.tops ≡ grounds.old.desk.tops }
     ensures setting { grounds.new.setting ≡ grounds.old.setting }

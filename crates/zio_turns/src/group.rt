@@ -8,6 +8,7 @@ ghost use Rattle.zio_turns.specs.AtLeaves.{eligible_at, eligible_leaves, waiting
 ghost use Rattle.zio_turns.specs.Slabs.{AreAll, load};
 ghost use Rattle.zio_turns.specs.Stops.{StopsWith};
 ghost use Rattle.zio_turns.specs.UnderTurns.{AreAtLeaves, ComeBack, GoesOnSome, IssuesOn, work_left};
+ghost use Rattle.zio_turns.specs.Wrote.{TellWrote};
 
 use crate::grounds::Grounds;
 use crate::turns::Turns;
@@ -19,7 +20,7 @@ use zio_types::{List, NoMemory};
 
 /// Issues the next group of the k-th leaf that has one, and tells each node its answer. Each sound round that goes on
 /// goes on. After a stop nothing is said of the nodes, and the disks have changed at most where what waited there
-/// writes.
+/// writes. However it ends, no byte was written but the round's own.
 pub fn issue_group<N: Staged, D: Disk + Drop>(
     turns: &mut Turns<N>,
     grounds: &mut Grounds<D>,
@@ -40,6 +41,8 @@ pub fn issue_group<N: Staged, D: Disk + Drop>(
         result grounds.old.disks.items grounds.new.disks.items }
     ensures stopped { OnErr result
         (StopsWith N.nodes D.bytes D.image turns.old.nodes turns.old.line grounds.old grounds.new.disks.items) }
+    ensures wrote { TellWrote N.nodes D.bytes D.image D.went turns.old.nodes turns.old.line grounds.old
+        grounds.new.disks.items }
     ensures desk { grounds.new.desk ≡ grounds.old.desk }
     ensures setting { grounds.new.setting ≡ grounds.old.setting }
 {

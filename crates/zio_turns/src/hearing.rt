@@ -7,6 +7,7 @@ ghost use Rattle.zio_turns.specs.Slabs.{AreAll};
 ghost use Rattle.zio_turns.specs.Stops.{StopsWith};
 ghost use Rattle.zio_staged.specs.Stages.{OutcomeIn};
 ghost use Rattle.zio_turns.specs.UnderTurns.{GoesOnSome, IsDoneUnless, RunsToTree, work_left};
+ghost use Rattle.zio_turns.specs.Wrote.{TellWrote};
 
 use crate::drive::run_on;
 use crate::grounds::Grounds;
@@ -30,7 +31,7 @@ pub struct Hearing<S> {
 /// Runs until a tree of the round hears of its attempt, or no key is queued and nothing waits at the leaves. The
 /// requests that finish meanwhile are added in order of their completion, a child's before its parent's. Each sound
 /// round that goes on goes on, whatever is picked. It is stopped by a device exactly where a disk's count of faults
-/// rose.
+/// rose. However it ends, no byte was written but the round's own.
 pub fn run_to_tree<N: Staged, D: Disk + Drop, P: Picks, H: Helper<N>>(
     turns: &mut Turns<N>,
     grounds: &mut Grounds<D>,
@@ -57,6 +58,8 @@ pub fn run_to_tree<N: Staged, D: Disk + Drop, P: Picks, H: Helper<N>>(
         map D.faults grounds.new.disks.items ≡ map D.faults grounds.old.disks.items }
     ensures stopped { OnErr result
         (StopsWith N.nodes D.bytes D.image turns.old.nodes turns.old.line grounds.old grounds.new.disks.items) }
+    ensures wrote { TellWrote N.nodes D.bytes D.image D.went turns.old.nodes turns.old.line grounds.old
+        grounds.new.disks.items }
     ensures tops { grounds.new.desk.tops ≡ grounds.old.desk.tops }
     ensures setting { grounds.new.setting ≡ grounds.old.setting }
 {

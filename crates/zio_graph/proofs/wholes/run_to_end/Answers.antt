@@ -10,6 +10,9 @@ use Rattle.zio_graph.specs.SteadyGrounds.{standing_on, terms_on}
 use Rattle.zio_graph.proofs.Begun.{begun_count, begun_within, some_runs}
 use Rattle.zio_graph.proofs.FewTrees.{few_trees}
 use Rattle.zio_graph.proofs.Overs.{ends_on, loose_itself, loose_over, loose_stopped, steady_job}
+use Rattle.zio_graph.specs.Crashes.{MayWrite}
+use Rattle.zio_graph.proofs.WroteRounds.{may_write, spares, spares_same}
+use Rattle.zio_turns.proofs.WroteLemmas.{wrote_same}
 use Rattle.zio_graph.proofs.wholes.run_to_end.Goals as goal
 
 pub begin_trees-requires-clause-few : goal.begin_trees-requires-clause-few
@@ -87,3 +90,53 @@ returns-clause-images g c =
     c.args.wholes job g.met.D.Disk.has_size c.begin_trees.new.turns.nodes c.begin_trees.new.turns.line c.in_ok-trees.trees.items
     c.run_trees.new.grounds.disks.items c.in_ok-trees.ensures.begins c.in_ok-trees.ensures.states c.run_trees.ensures.same.sizes
     c.in-Err.ensures.stopped
+
+pub returns-in_err-trees-clause-wrote : goal.returns-in_err-trees-clause-wrote
+returns-in_err-trees-clause-wrote g c =
+    wrote_same g.D.Disk.went (MayWrite (standing_on g.D.Disk.faults c.args.grounds.now) (map pendings c.args.wholes))
+    c.args.grounds.now.disks.items c.args.grounds.now.disks.items refl
+
+pub returns-in_err-trees-clause-spares : goal.returns-in_err-trees-clause-spares
+returns-in_err-trees-clause-spares g c =
+    spares_same g.D.Disk.image g.D.Disk.went (standing_on g.D.Disk.faults c.args.grounds.now) (map pendings c.args.wholes)
+    c.args.grounds.now.disks.items c.args.grounds.now.disks.items refl
+
+pub returns-in-Ok-clause-wrote : goal.returns-in-Ok-clause-wrote
+returns-in-Ok-clause-wrote g c =
+    let m = g.D.Disk in
+    may_write g.N.NodeFacts.nodes m.bytes m.faults m.image m.went c.args.grounds.now c.args.round c.args.failmode c.requires.steady
+    c.args.wholes
+    (steady_job m.bytes m.faults c.args.grounds.now c.args.round c.args.failmode c.requires.steady c.args.wholes c.requires.trees
+    c.requires.runs)
+    c.begin_trees.new.turns.nodes c.begin_trees.new.turns.line c.in_ok-trees.trees.items c.run_trees.new.grounds.disks.items
+    c.in_ok-trees.ensures.begins c.in_ok-trees.ensures.states c.run_trees.ensures.wrote
+
+pub returns-in-Ok-clause-spares : goal.returns-in-Ok-clause-spares
+returns-in-Ok-clause-spares g c =
+    let m = g.D.Disk in
+    spares g.N.NodeFacts.nodes m.bytes m.faults m.image m.went c.args.grounds.now c.args.round c.args.failmode c.requires.steady
+    c.args.wholes
+    (steady_job m.bytes m.faults c.args.grounds.now c.args.round c.args.failmode c.requires.steady c.args.wholes c.requires.trees
+    c.requires.runs)
+    c.begin_trees.new.turns.nodes c.begin_trees.new.turns.line c.in_ok-trees.trees.items c.run_trees.new.grounds.disks.items
+    c.in_ok-trees.ensures.begins c.in_ok-trees.ensures.states c.run_trees.ensures.wrote g.met.D.Disk.has_size
+
+pub returns-clause-wrote : goal.returns-clause-wrote
+returns-clause-wrote g c =
+    let m = g.D.Disk in
+    may_write g.N.NodeFacts.nodes m.bytes m.faults m.image m.went c.args.grounds.now c.args.round c.args.failmode c.requires.steady
+    c.args.wholes
+    (steady_job m.bytes m.faults c.args.grounds.now c.args.round c.args.failmode c.requires.steady c.args.wholes c.requires.trees
+    c.requires.runs)
+    c.begin_trees.new.turns.nodes c.begin_trees.new.turns.line c.in_ok-trees.trees.items c.run_trees.new.grounds.disks.items
+    c.in_ok-trees.ensures.begins c.in_ok-trees.ensures.states c.run_trees.ensures.wrote
+
+pub returns-clause-spares : goal.returns-clause-spares
+returns-clause-spares g c =
+    let m = g.D.Disk in
+    spares g.N.NodeFacts.nodes m.bytes m.faults m.image m.went c.args.grounds.now c.args.round c.args.failmode c.requires.steady
+    c.args.wholes
+    (steady_job m.bytes m.faults c.args.grounds.now c.args.round c.args.failmode c.requires.steady c.args.wholes c.requires.trees
+    c.requires.runs)
+    c.begin_trees.new.turns.nodes c.begin_trees.new.turns.line c.in_ok-trees.trees.items c.run_trees.new.grounds.disks.items
+    c.in_ok-trees.ensures.begins c.in_ok-trees.ensures.states c.run_trees.ensures.wrote g.met.D.Disk.has_size

@@ -17,6 +17,7 @@ use Rattle.zio_graph.specs.SteadyGrounds.{standing_on, terms_on}
 use Rattle.zio_graph.proofs.EndedRounds.{ends_so, fits, is_so, stands, still, trees_left}
 use Rattle.zio_graph.proofs.Lefts.{left_within}
 use Rattle.zio_graph.proofs.Overs.{loose_then, steady_job}
+use Rattle.zio_graph.proofs.WroteRounds.{spares_now, wrote_now}
 use Rattle.zio_graph.proofs.wholes.run_wholes.Goals as goal
 
 pub returns-clause-round : goal.returns-clause-round
@@ -160,3 +161,39 @@ returns-clause-same g c =
     subst
     (λ (ds : List _). AreSameDisks m.bytes m.faults m.faults_at_fetch m.home m.image m.sound c.args.grounds.now.disks.items ds)
     (sym c.end_round-entries.ensures.disks) c.run_to_end.ensures.same
+
+pub returns-in_err-left-clause-wrote : goal.returns-in_err-left-clause-wrote
+returns-in_err-left-clause-wrote g c =
+    wrote_now g.D.Disk.went (standing_on g.D.Disk.faults c.args.grounds.now) (map pendings c.args.wholes)
+    c.args.grounds.now.disks.items c.run_to_end.new.grounds.disks.items c.end_round-entries.new.self.disks.items
+    c.end_round-entries.ensures.disks c.run_to_end.ensures.wrote
+
+pub returns-in_err-left-clause-spares : goal.returns-in_err-left-clause-spares
+returns-in_err-left-clause-spares g c =
+    spares_now g.D.Disk.image g.D.Disk.went (standing_on g.D.Disk.faults c.args.grounds.now) (map pendings c.args.wholes)
+    c.args.grounds.now.disks.items c.run_to_end.new.grounds.disks.items c.end_round-entries.new.self.disks.items
+    c.end_round-entries.ensures.disks c.run_to_end.ensures.spares
+
+pub returns-in_err-completions-clause-wrote : goal.returns-in_err-completions-clause-wrote
+returns-in_err-completions-clause-wrote g c =
+    wrote_now g.D.Disk.went (standing_on g.D.Disk.faults c.args.grounds.now) (map pendings c.args.wholes)
+    c.args.grounds.now.disks.items c.run_to_end.new.grounds.disks.items c.end_round-entries.new.self.disks.items
+    c.end_round-entries.ensures.disks c.run_to_end.ensures.wrote
+
+pub returns-in_err-completions-clause-spares : goal.returns-in_err-completions-clause-spares
+returns-in_err-completions-clause-spares g c =
+    spares_now g.D.Disk.image g.D.Disk.went (standing_on g.D.Disk.faults c.args.grounds.now) (map pendings c.args.wholes)
+    c.args.grounds.now.disks.items c.run_to_end.new.grounds.disks.items c.end_round-entries.new.self.disks.items
+    c.end_round-entries.ensures.disks c.run_to_end.ensures.spares
+
+pub returns-clause-wrote : goal.returns-clause-wrote
+returns-clause-wrote g c =
+    wrote_now g.D.Disk.went (standing_on g.D.Disk.faults c.args.grounds.now) (map pendings c.args.wholes)
+    c.args.grounds.now.disks.items c.run_to_end.new.grounds.disks.items c.end_round-entries.new.self.disks.items
+    c.end_round-entries.ensures.disks c.run_to_end.ensures.wrote
+
+pub returns-clause-spares : goal.returns-clause-spares
+returns-clause-spares g c =
+    spares_now g.D.Disk.image g.D.Disk.went (standing_on g.D.Disk.faults c.args.grounds.now) (map pendings c.args.wholes)
+    c.args.grounds.now.disks.items c.run_to_end.new.grounds.disks.items c.end_round-entries.new.self.disks.items
+    c.end_round-entries.ensures.disks c.run_to_end.ensures.spares

@@ -9,6 +9,7 @@ use Rattle.std.specs.List.{AllByRecursion, sum_by}
 use Rattle.zio_turns.specs.UnderTrees.{StateIn, attempts_left}
 use Rattle.zio_turns.proofs.StopLemmas.{heard_stops, on_err, trees_stop}
 use Rattle.zio_turns.proofs.TreeLoops.{IsRunningTrees, all_in, fewer_again, fewer_settled, few_attempts, state_there, trees_again, trees_begin, trees_end, trees_settle, trees_some, tree_under, within_trees}
+use Rattle.zio_turns.proofs.WroteLemmas.{trees_wrote, trees_wrote_nothing}
 use Rattle.zio_turns.proofs.all_trees.run_trees.Goals as goal
 
 pub trees-init : goal.trees-init
@@ -18,6 +19,8 @@ trees-init g c = (
   trees_begin g.N.NodeFacts.nodes g.N.Staged.over g.D.Disk.bytes g.D.Disk.faults g.D.Disk.image c.args.turns.now.nodes
       c.args.turns.now.line c.args.grounds.now c.args.round c.args.failmode c.args.trees.now.items c.args.ended.now.items c.requires.over,
   refl,
+  trees_wrote_nothing g.N.NodeFacts.nodes g.D.Disk.bytes g.D.Disk.image g.D.Disk.went c.args.turns.now.nodes c.args.turns.now.line
+      c.args.grounds.now c.args.round c.args.failmode c.args.trees.now.items,
 )
 
 pub run_to_tree-requires-clause-going : goal.run_to_tree-requires-clause-going
@@ -103,6 +106,10 @@ trees-preserved-in-None g c = (
       c.run_to_tree.ensures.tops c.run_to_tree.ensures.setting),
   ap (λ (xs : List TreeState). length xs) c.set_state.ensures
       ∙ (length-set c.trees.trees.items c.in-Some.heard.tree (UnderWay (c.under_way-attempt.result + 1)) ∙ c.trees.invariant.3),
+  trees_wrote g.N.NodeFacts.nodes g.D.Disk.bytes g.D.Disk.image g.D.Disk.went c.args.turns.now.nodes c.trees.turns.nodes
+      c.args.turns.now.line c.trees.turns.line c.args.grounds.now c.trees.grounds c.args.round c.args.failmode c.args.trees.now.items
+      c.trees.trees.items c.args.ended.now.items c.trees.ended.items c.run_to_tree.new.grounds.disks.items c.trees.invariant.2.gone
+      c.trees.invariant.4 c.run_to_tree.ensures.wrote,
 )
 
 pub trees-preserved : goal.trees-preserved
@@ -129,6 +136,10 @@ trees-preserved g c = (
       c.run_to_tree.ensures.tops c.run_to_tree.ensures.setting),
   ap (λ (xs : List TreeState). length xs) c.set_state-in-Some-end.ensures
       ∙ (length-set c.trees.trees.items c.in-Some.heard.tree (Settled c.in-Some-end.end) ∙ c.trees.invariant.3),
+  trees_wrote g.N.NodeFacts.nodes g.D.Disk.bytes g.D.Disk.image g.D.Disk.went c.args.turns.now.nodes c.trees.turns.nodes
+      c.args.turns.now.line c.trees.turns.line c.args.grounds.now c.trees.grounds c.args.round c.args.failmode c.args.trees.now.items
+      c.trees.trees.items c.args.ended.now.items c.trees.ended.items c.run_to_tree.new.grounds.disks.items c.trees.invariant.2.gone
+      c.trees.invariant.4 c.run_to_tree.ensures.wrote,
 )
 
 pub trees-smaller-in-None : goal.trees-smaller-in-None
@@ -195,3 +206,24 @@ pub returns-in_default-hear_tree-clause-same : goal.returns-in_default-hear_tree
 returns-in_default-hear_tree-clause-same g c =
     same_then g.D.Disk.bytes g.D.Disk.faults g.D.Disk.faults_at_fetch g.D.Disk.home g.D.Disk.image g.D.Disk.sound c.args.grounds.now.disks.items c.trees.grounds.disks.items
     c.run_to_tree.new.grounds.disks.items c.trees.invariant.1 c.run_to_tree.ensures.same
+
+pub returns-in_err-heard-clause-wrote : goal.returns-in_err-heard-clause-wrote
+returns-in_err-heard-clause-wrote g c =
+    trees_wrote g.N.NodeFacts.nodes g.D.Disk.bytes g.D.Disk.image g.D.Disk.went c.args.turns.now.nodes c.trees.turns.nodes
+    c.args.turns.now.line c.trees.turns.line c.args.grounds.now c.trees.grounds c.args.round c.args.failmode c.args.trees.now.items
+    c.trees.trees.items c.args.ended.now.items c.trees.ended.items c.run_to_tree.new.grounds.disks.items c.trees.invariant.2.gone
+    c.trees.invariant.4 c.run_to_tree.ensures.wrote
+
+pub returns-in_default-clause-wrote : goal.returns-in_default-clause-wrote
+returns-in_default-clause-wrote g c =
+    trees_wrote g.N.NodeFacts.nodes g.D.Disk.bytes g.D.Disk.image g.D.Disk.went c.args.turns.now.nodes c.trees.turns.nodes
+    c.args.turns.now.line c.trees.turns.line c.args.grounds.now c.trees.grounds c.args.round c.args.failmode c.args.trees.now.items
+    c.trees.trees.items c.args.ended.now.items c.trees.ended.items c.run_to_tree.new.grounds.disks.items c.trees.invariant.2.gone
+    c.trees.invariant.4 c.run_to_tree.ensures.wrote
+
+pub returns-in_default-hear_tree-clause-wrote : goal.returns-in_default-hear_tree-clause-wrote
+returns-in_default-hear_tree-clause-wrote g c =
+    trees_wrote g.N.NodeFacts.nodes g.D.Disk.bytes g.D.Disk.image g.D.Disk.went c.args.turns.now.nodes c.trees.turns.nodes
+    c.args.turns.now.line c.trees.turns.line c.args.grounds.now c.trees.grounds c.args.round c.args.failmode c.args.trees.now.items
+    c.trees.trees.items c.args.ended.now.items c.trees.ended.items c.run_to_tree.new.grounds.disks.items c.trees.invariant.2.gone
+    c.trees.invariant.4 c.run_to_tree.ensures.wrote

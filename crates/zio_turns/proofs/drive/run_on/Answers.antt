@@ -7,6 +7,7 @@ use Rattle.zio_turns.specs.UnderTurns.{TurnedIn}
 use Rattle.zio_turns.proofs.DriveMoves.{done_told, drive_begins, drive_issued, drive_taken, drive_tells, drive_turn, drive_turned, no_line, run_some, taken_less}
 use Rattle.zio_turns.proofs.Helps.{stays_turned, turn_stays}
 use Rattle.zio_turns.proofs.StopLemmas.{on_err, run_stops, same_stops}
+use Rattle.zio_turns.proofs.WroteLemmas.{none_wrote, run_wrote, same_wrote}
 use Rattle.zio_turns.proofs.drive.run_on.Goals as goal
 
 pub picks-init : goal.picks-init
@@ -14,6 +15,8 @@ picks-init g c = (
   same_itself g.D.Disk.bytes g.D.Disk.faults g.D.Disk.faults_at_fetch g.D.Disk.home g.D.Disk.image g.D.Disk.sound c.args.grounds.now.disks.items,
   drive_begins g.N.NodeFacts.nodes g.D.Disk.bytes g.D.Disk.faults g.D.Disk.image g.N.Staged.over c.args.turns.now.nodes c.args.turns.now.line
       c.args.grounds.now c.requires.over,
+  none_wrote g.N.NodeFacts.nodes g.D.Disk.bytes g.D.Disk.image g.D.Disk.went c.args.turns.now.nodes c.args.turns.now.line
+      c.args.grounds.now c.args.grounds.now.disks.items refl,
 )
 
 pub returns-then-choices-eq0-clause-done : goal.returns-then-choices-eq0-clause-done
@@ -65,6 +68,9 @@ picks-preserved-in-Nothing g c = (
       c.args.grounds.now c.picks.turns.nodes c.help.new.turns.nodes c.run_turn.new.turns.nodes c.picks.turns.line c.help.new.turns.line
       c.run_turn.new.turns.line c.picks.grounds c.run_turn.new.grounds c.picks.invariant.1
       c.take-key.new.self.nodes c.take-key.new.self.line c.take-key.ensures.nodes c.take-key.ensures.len c.in_ok-help.ensures.less c.in_ok-told.ensures.less),
+  same_wrote g.N.NodeFacts.nodes g.D.Disk.bytes g.D.Disk.image g.D.Disk.went c.args.turns.now.nodes c.args.turns.now.line
+      c.args.grounds.now c.picks.grounds.disks.items c.run_turn.new.grounds.disks.items c.run_turn.ensures.same.disks_same
+      c.picks.invariant.2,
 )
 
 pub returns-in_default-clause-runs : goal.returns-in_default-clause-runs
@@ -119,6 +125,10 @@ picks-preserved g c = (
       c.picks.grounds c.issue_group.new.grounds c.picks.invariant.1 c.in_ok-issue_group.ensures.issues
       c.in_ok-issue_group.ensures.over c.issue_group.ensures.desk c.issue_group.ensures.setting
       c.in_ok-issue_group.ensures.handled.steady c.in_ok-issue_group.ensures.less,
+  run_wrote g.N.NodeFacts.nodes g.D.Disk.bytes g.D.Disk.image g.D.Disk.went c.args.turns.now.nodes c.picks.turns.nodes
+      c.args.turns.now.line c.picks.turns.line c.args.grounds.now c.picks.grounds c.issue_group.new.grounds.disks.items
+      (λ t sizes f before s sound going. let turned = c.picks.invariant.1.gone t sizes f before s sound going in (turned.now, turned.going))
+      c.picks.invariant.2 c.issue_group.ensures.wrote,
 )
 
 pub returns-in_err-told-clause-stopped : goal.returns-in_err-told-clause-stopped
@@ -158,3 +168,22 @@ pub returns-in_err-issue_group-clause-calm : goal.returns-in_err-issue_group-cla
 returns-in_err-issue_group-clause-calm g c = λ is.
     (let q = err_from_is_err_and c.from_residual-in_err-issue_group.result c.from_residual-in_err-issue_group.ensures.1 in
     c.in_err-issue_group.ensures.handled.calm (λ e. (let a = q.1 in let b = q.2 in cc)) ∙ c.picks.invariant.1.steady)
+
+pub returns-in_default-clause-wrote : goal.returns-in_default-clause-wrote
+returns-in_default-clause-wrote g c =
+    same_wrote g.N.NodeFacts.nodes g.D.Disk.bytes g.D.Disk.image g.D.Disk.went c.args.turns.now.nodes c.args.turns.now.line
+    c.args.grounds.now c.picks.grounds.disks.items c.run_turn.new.grounds.disks.items c.run_turn.ensures.same.disks_same
+    c.picks.invariant.2
+
+pub returns-in_err-told-clause-wrote : goal.returns-in_err-told-clause-wrote
+returns-in_err-told-clause-wrote g c =
+    same_wrote g.N.NodeFacts.nodes g.D.Disk.bytes g.D.Disk.image g.D.Disk.went c.args.turns.now.nodes c.args.turns.now.line
+    c.args.grounds.now c.picks.grounds.disks.items c.run_turn.new.grounds.disks.items c.run_turn.ensures.same.disks_same
+    c.picks.invariant.2
+
+pub returns-in_err-issue_group-clause-wrote : goal.returns-in_err-issue_group-clause-wrote
+returns-in_err-issue_group-clause-wrote g c =
+    run_wrote g.N.NodeFacts.nodes g.D.Disk.bytes g.D.Disk.image g.D.Disk.went c.args.turns.now.nodes c.picks.turns.nodes
+    c.args.turns.now.line c.picks.turns.line c.args.grounds.now c.picks.grounds c.issue_group.new.grounds.disks.items
+    (λ t sizes f before s sound going. let turned = c.picks.invariant.1.gone t sizes f before s sound going in (turned.now, turned.going))
+    c.picks.invariant.2 c.issue_group.ensures.wrote

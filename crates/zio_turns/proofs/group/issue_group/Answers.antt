@@ -2,6 +2,7 @@ use Rattle.zio_turns.specs.AtLeaves.{eligible_at}
 use Rattle.zio_turns.specs.Slabs.{load}
 use Rattle.zio_turns.proofs.GroupMoves.{group_awaited, group_issues, group_less}
 use Rattle.zio_turns.proofs.StopLemmas.{leaf_stops, on_err}
+use Rattle.zio_turns.proofs.WroteLemmas.{leaf_wrote}
 use Rattle.zio_turns.proofs.group.issue_group.Goals as goal
 
 pub tell_answers-requires : goal.tell_answers-requires
@@ -34,3 +35,21 @@ pub returns-in-Err-clause-stopped : goal.returns-in-Err-clause-stopped
 returns-in-Err-clause-stopped g c =
     leaf_stops g.N.NodeFacts.nodes g.D.Disk.bytes g.D.Disk.image c.args.turns.now.nodes c.args.turns.now.line c.args.grounds.now
     c.issue.new.self.disks.items (eligible_at c.args.grounds.now.queues.leaves.items c.args.k) c.issue.ensures.handled.outside
+
+pub returns-in_err-answers-clause-wrote : goal.returns-in_err-answers-clause-wrote
+returns-in_err-answers-clause-wrote g c =
+    leaf_wrote g.N.NodeFacts.nodes g.D.Disk.bytes g.D.Disk.image g.D.Disk.went c.args.turns.now.nodes c.args.turns.now.line
+    c.args.grounds.now c.issue.new.self.disks.items (eligible_at c.args.grounds.now.queues.leaves.items c.args.k)
+    c.issue.ensures.handled.wrote
+
+pub returns-in-Ok-clause-wrote : goal.returns-in-Ok-clause-wrote
+returns-in-Ok-clause-wrote g c =
+    leaf_wrote g.N.NodeFacts.nodes g.D.Disk.bytes g.D.Disk.image g.D.Disk.went c.args.turns.now.nodes c.args.turns.now.line
+    c.args.grounds.now c.issue.new.self.disks.items (eligible_at c.args.grounds.now.queues.leaves.items c.args.k)
+    c.issue.ensures.handled.wrote
+
+pub returns-in-Err-clause-wrote : goal.returns-in-Err-clause-wrote
+returns-in-Err-clause-wrote g c =
+    leaf_wrote g.N.NodeFacts.nodes g.D.Disk.bytes g.D.Disk.image g.D.Disk.went c.args.turns.now.nodes c.args.turns.now.line
+    c.args.grounds.now c.issue.new.self.disks.items (eligible_at c.args.grounds.now.queues.leaves.items c.args.k)
+    c.issue.ensures.handled.wrote

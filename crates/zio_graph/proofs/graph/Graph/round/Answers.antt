@@ -16,7 +16,10 @@ use Rattle.zio_graph.specs.SteadyGrounds.{standing_on}
 use Rattle.zio_graph.proofs.Grounds.{begun_ready}
 use Rattle.zio_graph.proofs.OverTops.{trees_over}
 use Rattle.zio_graph.proofs.Overs.{loose_itself}
-use Rattle.zio_graph.proofs.Standings.{HasBegun, IsSeenEnd, as_trees, begun_runs, ends_seen, have_units, loose_seen, over_within, round_seen, stands_seen, stopped_seen}
+use Rattle.zio_graph.proofs.Standings.{HasBegun, IsSeenEnd, as_trees, begun_runs, ends_seen, have_units, loose_seen, over_within, round_seen, spares_seen, stands_seen, stopped_seen, wrote_seen}
+use Rattle.zio_graph.proofs.WroteRounds.{spares_same}
+use Rattle.zio_turns.proofs.WroteLemmas.{wrote_same}
+use Rattle.zio_graph.specs.Crashes.{MayWrite}
 use Rattle.zio_graph.proofs.graph.Graph.round.Goals as goal
 
 -- a call stops for what the call within it stopped for
@@ -354,3 +357,107 @@ returns-in_err-rests-clause-calm g c =
       disks = ap (λ v. v.items) c.note_point.ensures.disks ∙ ap (λ (q : SeenGraph _). q.disks) c.self.view_is;
     } in
     λ is. c.in_ok-finished.ensures.faults ∙ ap (map m.faults) begins.disks
+
+pub returns-in_err-wholes-clause-wrote : goal.returns-in_err-wholes-clause-wrote
+returns-in_err-wholes-clause-wrote g c =
+    let m = g.D.Disk in
+    let p : SeenGraph _ = c.args.self.now in
+    let begins : HasBegun p c.args.job.point c.note_point.new.grounds = record {
+      setting = c.note_point.ensures.setting ∙ ap
+          (λ (q : SeenGraph _). record { tops = q.setting.tops; rows = q.setting.rows; point = c.args.job.point }) c.self.view_is;
+      live = ap (λ (d : Desk). d.space.live) c.note_point.ensures.desk ∙ ap (λ (q : SeenGraph _). q.live) c.self.view_is;
+      disks = ap (λ v. v.items) c.note_point.ensures.disks ∙ ap (λ (q : SeenGraph _). q.disks) c.self.view_is;
+    } in
+    wrote_same m.went (MayWrite (standing_of m.faults p) (as_trees c.args.job.trees)) p.disks c.note_point.new.grounds.disks.items
+    begins.disks
+
+pub returns-in_err-wholes-clause-spares : goal.returns-in_err-wholes-clause-spares
+returns-in_err-wholes-clause-spares g c =
+    let m = g.D.Disk in
+    let p : SeenGraph _ = c.args.self.now in
+    let begins : HasBegun p c.args.job.point c.note_point.new.grounds = record {
+      setting = c.note_point.ensures.setting ∙ ap
+          (λ (q : SeenGraph _). record { tops = q.setting.tops; rows = q.setting.rows; point = c.args.job.point }) c.self.view_is;
+      live = ap (λ (d : Desk). d.space.live) c.note_point.ensures.desk ∙ ap (λ (q : SeenGraph _). q.live) c.self.view_is;
+      disks = ap (λ v. v.items) c.note_point.ensures.disks ∙ ap (λ (q : SeenGraph _). q.disks) c.self.view_is;
+    } in
+    spares_same m.image m.went (standing_of m.faults p) (as_trees c.args.job.trees) p.disks c.note_point.new.grounds.disks.items
+    begins.disks
+
+pub returns-in_err-finished-clause-wrote : goal.returns-in_err-finished-clause-wrote
+returns-in_err-finished-clause-wrote g c =
+    let m = g.D.Disk in
+    let p : SeenGraph _ = c.args.self.now in
+    let begins : HasBegun p c.args.job.point c.note_point.new.grounds = record {
+      setting = c.note_point.ensures.setting ∙ ap
+          (λ (q : SeenGraph _). record { tops = q.setting.tops; rows = q.setting.rows; point = c.args.job.point }) c.self.view_is;
+      live = ap (λ (d : Desk). d.space.live) c.note_point.ensures.desk ∙ ap (λ (q : SeenGraph _). q.live) c.self.view_is;
+      disks = ap (λ v. v.items) c.note_point.ensures.disks ∙ ap (λ (q : SeenGraph _). q.disks) c.self.view_is;
+    } in
+    wrote_seen m.faults m.image p c.args.job.point c.note_point.new.grounds begins c.args.job.trees c.in_ok-wholes.wholes
+    c.in_ok-wholes.ensures.same m.went c.run_wholes.new.grounds.disks.items c.run_wholes.ensures.wrote
+
+pub returns-in_err-finished-clause-spares : goal.returns-in_err-finished-clause-spares
+returns-in_err-finished-clause-spares g c =
+    let m = g.D.Disk in
+    let p : SeenGraph _ = c.args.self.now in
+    let begins : HasBegun p c.args.job.point c.note_point.new.grounds = record {
+      setting = c.note_point.ensures.setting ∙ ap
+          (λ (q : SeenGraph _). record { tops = q.setting.tops; rows = q.setting.rows; point = c.args.job.point }) c.self.view_is;
+      live = ap (λ (d : Desk). d.space.live) c.note_point.ensures.desk ∙ ap (λ (q : SeenGraph _). q.live) c.self.view_is;
+      disks = ap (λ v. v.items) c.note_point.ensures.disks ∙ ap (λ (q : SeenGraph _). q.disks) c.self.view_is;
+    } in
+    spares_seen m.faults m.image p c.args.job.point c.note_point.new.grounds begins c.args.job.trees c.in_ok-wholes.wholes
+    c.in_ok-wholes.ensures.same m.went c.run_wholes.new.grounds.disks.items c.run_wholes.ensures.spares
+
+pub returns-in_err-rests-clause-wrote : goal.returns-in_err-rests-clause-wrote
+returns-in_err-rests-clause-wrote g c =
+    let m = g.D.Disk in
+    let p : SeenGraph _ = c.args.self.now in
+    let begins : HasBegun p c.args.job.point c.note_point.new.grounds = record {
+      setting = c.note_point.ensures.setting ∙ ap
+          (λ (q : SeenGraph _). record { tops = q.setting.tops; rows = q.setting.rows; point = c.args.job.point }) c.self.view_is;
+      live = ap (λ (d : Desk). d.space.live) c.note_point.ensures.desk ∙ ap (λ (q : SeenGraph _). q.live) c.self.view_is;
+      disks = ap (λ v. v.items) c.note_point.ensures.disks ∙ ap (λ (q : SeenGraph _). q.disks) c.self.view_is;
+    } in
+    wrote_seen m.faults m.image p c.args.job.point c.note_point.new.grounds begins c.args.job.trees c.in_ok-wholes.wholes
+    c.in_ok-wholes.ensures.same m.went c.run_wholes.new.grounds.disks.items c.run_wholes.ensures.wrote
+
+pub returns-in_err-rests-clause-spares : goal.returns-in_err-rests-clause-spares
+returns-in_err-rests-clause-spares g c =
+    let m = g.D.Disk in
+    let p : SeenGraph _ = c.args.self.now in
+    let begins : HasBegun p c.args.job.point c.note_point.new.grounds = record {
+      setting = c.note_point.ensures.setting ∙ ap
+          (λ (q : SeenGraph _). record { tops = q.setting.tops; rows = q.setting.rows; point = c.args.job.point }) c.self.view_is;
+      live = ap (λ (d : Desk). d.space.live) c.note_point.ensures.desk ∙ ap (λ (q : SeenGraph _). q.live) c.self.view_is;
+      disks = ap (λ v. v.items) c.note_point.ensures.disks ∙ ap (λ (q : SeenGraph _). q.disks) c.self.view_is;
+    } in
+    spares_seen m.faults m.image p c.args.job.point c.note_point.new.grounds begins c.args.job.trees c.in_ok-wholes.wholes
+    c.in_ok-wholes.ensures.same m.went c.run_wholes.new.grounds.disks.items c.run_wholes.ensures.spares
+
+pub returns-clause-wrote : goal.returns-clause-wrote
+returns-clause-wrote g c =
+    let m = g.D.Disk in
+    let p : SeenGraph _ = c.args.self.now in
+    let begins : HasBegun p c.args.job.point c.note_point.new.grounds = record {
+      setting = c.note_point.ensures.setting ∙ ap
+          (λ (q : SeenGraph _). record { tops = q.setting.tops; rows = q.setting.rows; point = c.args.job.point }) c.self.view_is;
+      live = ap (λ (d : Desk). d.space.live) c.note_point.ensures.desk ∙ ap (λ (q : SeenGraph _). q.live) c.self.view_is;
+      disks = ap (λ v. v.items) c.note_point.ensures.disks ∙ ap (λ (q : SeenGraph _). q.disks) c.self.view_is;
+    } in
+    wrote_seen m.faults m.image p c.args.job.point c.note_point.new.grounds begins c.args.job.trees c.in_ok-wholes.wholes
+    c.in_ok-wholes.ensures.same m.went c.run_wholes.new.grounds.disks.items c.run_wholes.ensures.wrote
+
+pub returns-clause-spares : goal.returns-clause-spares
+returns-clause-spares g c =
+    let m = g.D.Disk in
+    let p : SeenGraph _ = c.args.self.now in
+    let begins : HasBegun p c.args.job.point c.note_point.new.grounds = record {
+      setting = c.note_point.ensures.setting ∙ ap
+          (λ (q : SeenGraph _). record { tops = q.setting.tops; rows = q.setting.rows; point = c.args.job.point }) c.self.view_is;
+      live = ap (λ (d : Desk). d.space.live) c.note_point.ensures.desk ∙ ap (λ (q : SeenGraph _). q.live) c.self.view_is;
+      disks = ap (λ v. v.items) c.note_point.ensures.disks ∙ ap (λ (q : SeenGraph _). q.disks) c.self.view_is;
+    } in
+    spares_seen m.faults m.image p c.args.job.point c.note_point.new.grounds begins c.args.job.trees c.in_ok-wholes.wholes
+    c.in_ok-wholes.ensures.same m.went c.run_wholes.new.grounds.disks.items c.run_wholes.ensures.spares

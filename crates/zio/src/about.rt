@@ -18,8 +18,8 @@ run IMAGE.. reads a script from standard input, runs it, and writes the report
 to standard output. There are 1 to 16 images, files of 64 KiB to 256 MiB that
 are changed in place; leaf 0 of the script is the first of them.
   --workers N   how many threads take checksums side by side: 1 to 16, and 4
-                where that isn't said. Without --journal the report is the same
-                for each N
+                where that isn't said. With 1 blocks may lie elsewhere than with
+                more, and where space is short other writes may find no place
   --journal     shows where each round's blocks were placed, and the order in
                 which its requests completed
   --data        shows the bytes that each read gave

@@ -17,7 +17,7 @@ use std::sync::Wait;
 use std::thread::Threads;
 use zio_command::{CODE_MEMORY, CODE_SINK};
 use zio_outside::{FileShelf, Sink, StdSink, StdSource};
-use zio_program::{Watched, asked, line_of, text_of};
+use zio_program::{Watched, asked, behind_command, line_of, text_of};
 use zio_run::zio_main;
 use zio_types::Journal;
 
@@ -86,7 +86,8 @@ fn run<T: Threads + Wait + Sync>(rt: &HostRuntime, threads: &T, words: &[String]
 
 /// Tells in a line on standard error what the code means here. It says more than the code does, and changes nothing.
 fn explain(rt: &HostRuntime, code: u8, front: &[u8], words: &[String]) {
-    if let Ok(line) = line_of(rt, rt.alloc(), USAGE, code, front, words) {
+    let behind = behind_command(words);
+    if let Ok(line) = line_of(rt, rt.alloc(), USAGE, code, front, behind) {
         let _ = eprintln!(rt; "zio: {line}");
     }
 }

@@ -1,8 +1,6 @@
-//! The answers of the program to questions about itself.
-ghost use Rattle.std.specs.Prelude.{◌≡◌, map, string_bytes};
-ghost use Rattle.zio_auditor.specs.Questions.{asked_by, asked_by_word};
+//! What the program says of itself.
 
-use zio_program::{About, Question};
+use zio_program::About;
 
 /// Its name, and what `--help` tells.
 pub const ABOUT: About<'static> = About {
@@ -48,25 +46,3 @@ line, round or byte the why was first seen. The whys of status 10:
      after its children
   5  the report isn't the text of the run, neither with --data nor without
   6  the images AFTER aren't those that the run leaves";
-
-/// The question that these words are, none where they are for the top call.
-pub fn asked(words: &[String]) -> Option<Question>
-    ensures { result ≡ asked_by (map string_bytes words.now) }
-{
-    match words {
-        [word] => asked_by_word(word.as_str()),
-        _ => None,
-    }
-}
-
-fn asked_by_word(word: &str) -> Option<Question>
-    ensures { result ≡ asked_by_word word.now }
-{
-    if word == "--help" || word == "-h" {
-        Some(Question::Help)
-    } else if word == "--version" {
-        Some(Question::Version)
-    } else {
-        None
-    }
-}

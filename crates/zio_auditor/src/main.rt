@@ -2,14 +2,14 @@
 //!
 //! It joins `audit_telling`, which is `zio_audit_main` and says too where the reason of a no was first seen, to standard
 //! output and files, and ends with its code as the exit status. What it answers is the contract of that call. Questions
-//! for help or the version are answered here, as `about` says, and `told` has the line on standard error that goes with
+//! for help or the version are answered here; `zio_program` has them, and `told` the line on standard error that goes with
 //! a code other than 0.
 #![tactic(auto)]
 
 mod about;
 mod told;
 
-use about::{ABOUT, asked};
+use about::ABOUT;
 use std::alloc::AllocError;
 use std::env;
 use std::fs::File;
@@ -20,7 +20,7 @@ use zio_audit::Seen;
 use zio_audit_run::audit_telling;
 use zio_command::{CODE_MEMORY, CODE_SINK};
 use zio_outside::{FileShelf, Sink, StdSink};
-use zio_program::{Watched, text_of};
+use zio_program::{Watched, asked_alone, text_of};
 
 fn main(rt: HostRuntime) -> ExitCode {
     let _stand_ins = [stand_in(&rt), stand_in(&rt), stand_in(&rt)];
@@ -48,7 +48,7 @@ fn words(rt: &HostRuntime) -> Result<Vec<String>, AllocError> {
 }
 
 fn answer(rt: &HostRuntime, words: &[String]) -> u8 {
-    match asked(words) {
+    match asked_alone(words) {
         Some(question) => match text_of(rt.alloc(), ABOUT, question) {
             Ok(text) => tell(rt, text.as_str()),
             Err(_) => CODE_MEMORY,

@@ -47,6 +47,18 @@ cut_is Device = inr (inl refl)
 cut_is Sink = inl refl
 cut_is Memory = inr (inr refl)
 
+pub cut_no_ending : (fault : RunFault) (code : ℕ) → code ≡ cut_code fault → IsEnding code → ⊥
+cut_no_ending Device code is e = no_ending code 7 e is (inr (inr (inr (inr (inr (inl refl))))))
+cut_no_ending Sink code is e = no_ending code 6 e is (inr (inr (inr (inr (inl refl)))))
+cut_no_ending Memory code is e = no_ending code 8 e is (inr (inr (inr (inr (inr (inr refl))))))
+
+-- nor is that of a line for which a script or an image is refused
+pub line_no_ending : (due code : ℕ) → (due ≡ 2) ⊎ (due ≡ 3) → (code ≡ due) ⊎ (code ≡ 6) ⊎ (code ≡ 8) → IsEnding code → ⊥
+line_no_ending due code (inl two) (inl is) e = no_ending code 2 e (is ∙ two) (inr (inl refl))
+line_no_ending due code (inr three) (inl is) e = no_ending code 3 e (is ∙ three) (inr (inr (inl refl)))
+line_no_ending due code which (inr (inl six)) e = no_ending code 6 e six (inr (inr (inr (inr (inl refl)))))
+line_no_ending due code which (inr (inr eight)) e = no_ending code 8 e eight (inr (inr (inr (inr (inr (inr refl))))))
+
 -- ---- from an outcome to a code
 
 pub ended_ends : (mode : RunMode) (script : Script) (names : List (List ℕ)) (old_sink new_sink : SinkSeen) (old new : ShelfSeen) (old_journal journal : Journal) (ending : Ending) (code : ℕ)

@@ -7,6 +7,7 @@ pub mod EndLemmas
 pub mod EngineLemmas
 pub mod GroundLemmas
 pub mod HealLemmas
+pub mod KeptLemmas
 pub mod LeafLemmas
 pub mod NumberLemmas
 pub mod OptionLemmas

@@ -1,5 +1,5 @@
 -- What a runner's run of a script is over the disks that it was made of.
-use Rattle.std.proofs.Common.{◌≡◌, ℕ, List, [], ◌∷◌, Result, Ok, Err, length, map, Bool, refl, sym, ap, ◌∙◌, subst}
+use Rattle.std.proofs.Common.{◌≡◌, ℕ, List, [], ◌∷◌, Result, Ok, Err, inl, inr, length, map, Bool, refl, sym, ap, ◌∙◌, subst}
 use Rattle.std.specs.Prelude.{IfErr, IfOk, IsErrOf, OnOk}
 use Rattle.zio_types.specs.declared.journal.Journal.{Journal}
 use Rattle.zio_types.specs.declared.place.Top.{Top}
@@ -7,7 +7,9 @@ use Rattle.zio_outside.specs.Outside.{AnyRose, Appends, Rose}
 use Rattle.zio_script.specs.declared.script.Script.{Script}
 use Rattle.zio_script.specs.Requests.{requests_of}
 use Rattle.zio_cksum.specs.Images.{Images}
+use Rattle.zio_gang.specs.Attempts.{Pending, Terms}
 use Rattle.zio_gang.specs.declared.ending.Ending.{Ending}
+use Rattle.zio_gang.specs.Runs.{Event, rounds_of}
 use Rattle.zio_disks.proofs.DiskLemmas.{tell_length}
 use Rattle.zio_disks.specs.Disks.{Tell}
 use Rattle.zio_report.specs.declared.report.RunFault.{RunFault}
@@ -15,7 +17,10 @@ use Rattle.zio_report.specs.declared.report.RunFault.TheVariants.{Device, Sink, 
 use Rattle.zio_report.specs.declared.report.Show.{Show}
 use Rattle.zio_report.specs.Meanings.{IsWholeRun, course_of, tops_of}
 use Rattle.zio_report.specs.Reports.{RunSize}
-use Rattle.zio_course.specs.SoFar.{IsCut, IsCutText, IsFullText}
+use Rattle.zio_course.specs.declared.runner.Stop.{Stop}
+use Rattle.zio_course.specs.declared.runner.Stop.TheVariants.{Device as DeviceStops, Memory as NoMemory}
+use Rattle.zio_course.specs.Runners.{IsCutRound, Stopping}
+use Rattle.zio_course.specs.SoFar.{AreCutImages, IsBroken, IsCut, IsCutText, IsFullText, images_after}
 use Rattle.zio_suspend.specs.declared.run.PoolEnd.{PoolEnd}
 use Rattle.zio_suspend.specs.Pools.{AreBoundIn}
 use Rattle.zio_command.specs.Grounds.{HasRunOver, IsCauseOver, WasCutOver}
@@ -95,6 +100,42 @@ rounds_cut faults image show script tops stopped old new old_sink new_sink journ
       });
 }
 
+-- ---- a runner whose stops mean more
+
+round_plainly : (stop : Stop) (w : Stopping) (t : Terms) (trees : List (List Pending)) (before after : Images)
+    → IsCutRound stop w t trees before after → IsCutRound stop (stopping_plainly w.stopped) t trees before after
+round_plainly DeviceStops w t trees before after cut = cut
+round_plainly NoMemory w t trees before after (inl was) = inl (was.0, tt)
+round_plainly NoMemory w t trees before after (inr whole) = inr whole
+
+broken_plainly : (script : Script) (before : Images) (tops : List Top) (w : Stopping) (stop : Stop) (journal : Journal) (events : List Event) (after : Images)
+    → IsBroken script before tops w stop journal events after → IsBroken script before tops (stopping_plainly w.stopped) stop journal events after
+broken_plainly script before tops w stop journal events after broken = record {
+  terms = broken.terms;
+  trees = broken.trees;
+  goes_on = broken.goes_on;
+  cut = round_plainly stop w broken.terms broken.trees (images_after before (rounds_of events)) after broken.cut;
+  loose = broken.loose;
+}
+
+images_plainly : (fault : RunFault) (script : Script) (before : Images) (tops : List Top) (w : Stopping) (journal : Journal) (events : List Event) (after : Images)
+    → AreCutImages fault script before tops w journal events after → AreCutImages fault script before tops (stopping_plainly w.stopped) journal events after
+images_plainly Device script before tops w journal events after broken = broken_plainly script before tops w DeviceStops journal events after broken
+images_plainly Sink script before tops w journal events after between = between
+images_plainly Memory script before tops w journal events after (inl between) = inl between
+images_plainly Memory script before tops w journal events after (inr broken) = inr (broken_plainly script before tops w NoMemory journal events after broken)
+
+-- what its stop means may be left out
+pub cut_plainly : (show : Show) (n : RunSize) (script : Script) (before : Images) (tops : List Top) (w : Stopping) (fault : RunFault) (journal : Journal) (after : Images) (text : List ℕ)
+    → IsCut show n script before tops w fault journal after text → IsCut show n script before tops (stopping_plainly w.stopped) fault journal after text
+cut_plainly show n script before tops w fault journal after text cut = record {
+  events = cut.events;
+  rest = cut.rest;
+  begins = cut.begins;
+  entered = cut.entered;
+  images = images_plainly fault script before tops w journal cut.events after cut.images;
+}
+
 -- ---- the same of a run that gives the blocks that are bound
 
 pub pool_whole : {D : Type 0} (faults : D → ℕ) (image : D → List ℕ → Type 0) (show : Show) (script : Script) (old new : List D) (old_sink new_sink : SinkSeen) (journal : Journal) (images : ℕ)
@@ -108,15 +149,6 @@ pool_whole faults image show script old new old_sink new_sink journal images (Ok
     rounds_whole faults image show script old new old_sink new_sink journal images (Ok end.ending) count
     (λ before tells. let w = told before tells in (w.0, w.1, w.2, w.4, w.5)) steady quiet
 pool_whole faults image show script old new old_sink new_sink journal images (Err fault) count told steady quiet = tt
-
-pub pool_bound : {D : Type 0} (image : D → List ℕ → Type 0) (show : Show) (script : Script) (old new : List D) (old_sink new_sink : SinkSeen) (journal : Journal) (images : ℕ)
-    (ended : Result PoolEnd RunFault)
-    → IfOk ended (λ end. (before : Images) → Tell image old before → (after : Images) × (printed : List ℕ)
-    × IsWholeRun show (size_with script images) script before journal after printed end.ending
-    × AreBoundIn (course_of script before journal).state end.point end.bound × Tell image new after × Appends old_sink.holds new_sink.holds printed)
-    → IfOk ended (λ end. (before : Images) → Tell image old before → AreBoundIn (course_of script before journal).state end.point end.bound)
-pool_bound image show script old new old_sink new_sink journal images (Ok end) told = λ before tells. (told before tells).3
-pool_bound image show script old new old_sink new_sink journal images (Err fault) told = tt
 
 err_same : (a b : RunFault) → IsErrOf {T = Ending} {E = RunFault} (Err a) b → IsErrOf {T = PoolEnd} {E = RunFault} (Err a) b
 err_same a b e = let same : a ≡ b = cc in ap (λ (x : RunFault). Err x) same

@@ -16,10 +16,10 @@ use Rattle.zio_command.specs.Words.{AreNames, is_among}
 
 -- ---- what a list contains
 
-Contains-here : {X : Type 0} (x y : X) (xs : List X) → x ≡ y → Contains (x ∷ xs) y
+pub Contains-here : {X : Type 0} (x y : X) (xs : List X) → x ≡ y → Contains (x ∷ xs) y
 Contains-here x y xs e = (0, omega arith, e)
 
-Contains-there : {X : Type 0} (x y : X) (xs : List X) → Contains xs y → Contains (x ∷ xs) y
+pub Contains-there : {X : Type 0} (x y : X) (xs : List X) → Contains xs y → Contains (x ∷ xs) y
 Contains-there x y xs (k, inside, is) = (suc k, (let l : k < length xs = inside in omega arith), is)
 
 Contains-cons : {X : Type 0} (x y : X) (xs : List X) → Contains (x ∷ xs) y → (x ≡ y) ⊎ Contains xs y

@@ -156,11 +156,10 @@ trip_back {home = home} {image = image} {names = names} {disks = disks} {used = 
 -- the shelf may take them back
 pub trip_out : {D : Type 0} (bytes faults faults_at_fetch : D → ℕ) (home image : D → List ℕ → Type 0) (sound : D → Type 0) (names : List (List ℕ)) (disks used : List D)
     (old mid : List ℕ → List ℕ → Type 0) (old_out mid_out : List ℕ → Type 0) → AreNames names → AreFetched home image names disks old mid old_out mid_out
-    → AreSameDisks bytes faults faults_at_fetch home image sound disks used → (known : List (List ℕ)) × (images : Images) × AreOut home image mid_out known images used
+    → AreSameDisks bytes faults faults_at_fetch home image sound disks used → (images : Images) × AreOut home image mid_out names images used
 trip_out bytes faults faults_at_fetch home image sound names disks used old mid old_out mid_out apart f same =
     let were = AreOut-fetched home image names disks old mid old_out mid_out apart f in
     let after = still_told image disks used f.images same.told f.told in (
-      names,
       after.0,
       record {
         apart = apart;

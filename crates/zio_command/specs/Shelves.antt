@@ -2,6 +2,7 @@
 use Rattle.std.specs.Prelude.{◌≡◌, ◌<◌, ◌↔◌, ◌⊎◌, ℕ, List, [], ◌∷◌, drop, length, map, slice_index_or, take}
 use Rattle.std.specs.List.{AllByRecursion, Contains}
 use Rattle.zio_outside.specs.Outside.{count_max}
+use Rattle.zio_outside.specs.declared.written.Written.{Written}
 use Rattle.zio_cksum.specs.Images.{Images}
 use Rattle.zio_disks.specs.Disks.{Tell}
 use Rattle.zio_command.specs.Headline.{TellEach}
@@ -73,3 +74,33 @@ pub record KeepOthers (names : List (List ℕ)) (old new : List ℕ → List ℕ
   pub images : (other image : List ℕ) → ¬ Contains names other → new other image ↔ old other image
   pub out : (other : List ℕ) → new_out other ↔ old_out other
   pub still : (before : Images) → TellEach old names before → (after : Images) × TellEach new names after
+
+-- ---- what is kept through a crash
+
+-- under each of these names is kept what its disk keeps
+abbrev pub KeepEach : {D : Type 0} → (D → List ℕ → List Written → Type 0) → (List ℕ → List ℕ → List Written → Type 0)
+    → List (List ℕ) → List D → Type 0
+KeepEach disk_keeps keeps [] [] = Unit {0}
+KeepEach disk_keeps keeps [] (disk ∷ disks) = ⊥
+KeepEach disk_keeps keeps (name ∷ names) [] = ⊥
+KeepEach disk_keeps keeps (name ∷ names) (disk ∷ disks) =
+    ((stable : List ℕ) (ranges : List Written) → keeps name stable ranges ↔ disk_keeps disk stable ranges)
+    × KeepEach disk_keeps keeps names disks
+
+-- what disks keep comes home under these names, and what is kept under others stays
+pub record KeptComeHome {D : Type 0} (disk_keeps : D → List ℕ → List Written → Type 0) (names : List (List ℕ))
+    (disks : List D) (old new : List ℕ → List ℕ → List Written → Type 0) : Type 0 where
+  pub each : KeepEach disk_keeps new names disks
+  pub others : (other stable : List ℕ) (ranges : List Written) → ¬ Contains names other →
+      new other stable ranges ↔ old other stable ranges
+
+-- Disks of which this holds are at home under these names, with their images and with what they keep.
+pub record AreLeft {D : Type 0} (disk_image : D → List ℕ → Type 0) (disk_keeps : D → List ℕ → List Written → Type 0)
+    (holds : List D → Type 0) (names : List (List ℕ)) (image : List ℕ → List ℕ → Type 0)
+    (keeps : List ℕ → List ℕ → List Written → Type 0) : Type 0 where
+  pub disks : List D
+  pub images : Images
+  pub left : holds disks
+  pub told : Tell disk_image disks images
+  pub stored : TellEach image names images
+  pub kept : KeepEach disk_keeps keeps names disks

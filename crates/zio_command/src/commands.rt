@@ -4,10 +4,10 @@ ghost use Rattle.std.specs.Prelude.{◌≡◌, ◌≢◌, ◌⊎◌, ◌↔◌, 
 ghost use Rattle.std.specs.List.{AllByRecursion};
 ghost use Rattle.zio_report.specs.Meanings.{IsEmptyJournal};
 ghost use Rattle.zio_command.specs.Codes.{RunEnds};
-ghost use Rattle.zio_command.specs.Commands.{CommandEnds, WasUnread, image_names, reads, runs};
+ghost use Rattle.zio_command.specs.Commands.{CommandEnds, WasUnread, image_names, mode_of, reads, runs};
 ghost use Rattle.zio_command.specs.Outcomes.{IsEachBack, IsEnding, rest_of};
 ghost use Rattle.zio_command.specs.Seen.{shelf_by, sink_by, source_by};
-ghost use Rattle.zio_command.specs.Shelves.{KeepOthers};
+ghost use Rattle.zio_command.specs.Shelves.{AreLeft, KeepOthers};
 ghost use Rattle.zio_command.specs.Words.{AreImages, IsLawfulCommand};
 
 use crate::engines::Engines;
@@ -22,7 +22,7 @@ use zio_outside::{Shelf, Sink, Source};
 use zio_types::{Journal, Status, Text};
 
 /// Does what a command asks for, and ends with its code. A script is run by an engine that `engines` makes.
-pub fn run_command<E: Engines, S: Source, O: Sink, H: Shelf>(
+pub fn run_command<H: Shelf, E: Engines<H::Disk>, S: Source, O: Sink>(
     alloc: Global,
     engines: E,
     command: Command,
@@ -42,6 +42,11 @@ where
         CommandEnds command (source script.old) (source script.new) (sink out.old) (sink out.new) (saw shelf.old)
         (saw shelf.new)
         journal.old journal.new result.code }
+
+    // What the engine leaves of the disks, where nothing was done to them behind the run.
+    ensures left { runs command ≡ true → (mode_of command).scrubs ≡ false → IsEnding result.code → H.tells shelf.old →
+        AreLeft H.Disk.image H.Disk.keeps (E.leaves journal.new.rounds) (image_names command) (H.image shelf.new)
+        (H.keeps shelf.new) }
     ensures rest { reads command ≡ true → (result.code ≢ 5) → (result.code ≢ 8) → (text : Seq ℕ)
         → S.left script.old text →
         S.left script.new (rest_of text) }
@@ -95,7 +100,7 @@ where
 }
 
 /// Reads the source, and runs its text in this mode over the images of these names.
-fn run_source<E: Engines, S: Source, O: Sink, H: Shelf>(
+fn run_source<H: Shelf, E: Engines<H::Disk>, S: Source, O: Sink>(
     alloc: Global,
     script: &mut S,
     mode: &RunMode,
@@ -117,6 +122,9 @@ where
         (saw shelf.old) (saw shelf.new) journal.old journal.new)
         ⊎ RunEnds (S.left script.old) mode.now names.now (sink out.old) (sink out.new) (saw shelf.old)
         (saw shelf.new) journal.old journal.new result.code }
+    ensures left { mode.now.scrubs ≡ false → IsEnding result.code → H.tells shelf.old →
+        AreLeft H.Disk.image H.Disk.keeps (E.leaves journal.new.rounds) names.now (H.image shelf.new)
+        (H.keeps shelf.new) }
     ensures rest { (result.code ≢ 5) → (result.code ≢ 8) → (text : Seq ℕ) → S.left script.old text
         → S.left script.new (rest_of text) }
     ensures source_steady { IsEnding result.code → S.faults script.new ≡ S.faults script.old }

@@ -3,6 +3,7 @@
 ghost use Rattle.std.specs.Prelude.{◌≡◌, ◌≤◌, ◌⊎◌, ℕ, List as Seq, IfErr, IfOk, length, map};
 ghost use Rattle.zio_script.specs.Grammar.{IsScriptOf};
 ghost use Rattle.zio_cksum.specs.Images.{Images};
+ghost use Rattle.zio_gang.specs.declared.ending.Ending.{Ending};
 ghost use Rattle.zio_gang.specs.Trees.{sizes_of};
 ghost use Rattle.zio_disks.specs.Disks.{AreSameDisks, Tell};
 ghost use Rattle.zio_disks.specs.Whole.{IsWholeTree};
@@ -22,16 +23,19 @@ use zio_suspend::PoolEnd;
 use zio_types::{Journal, List, Top};
 
 /// Makes an engine over disks, and runs a script by it. It holds what the engine needs beside.
-pub trait Engines: Drop {
+pub trait Engines<D: Disk + Drop>: Drop {
     /// What an engine's threads need of the types that it stands on.
     ghost Can: { Type 0 };
+
+    /// What holds of the disks after a run that wasn't cut short, of so many rounds.
+    ghost leaves: { ℕ → Seq D → Type 0 };
 
     /// Makes them as the command asks.
     fn asked_by(self, command: &Command) -> Self;
 
     /// Runs the script over disks that bear its tops, by an engine that has run nothing yet, and hands the disks back.
     /// The tops are those of the setting.
-    fn run<O: Sink, D: Disk + Drop>(
+    fn run<O: Sink>(
         &self,
         alloc: Global,
         script: &Script,
@@ -52,11 +56,13 @@ pub trait Engines: Drop {
             CameOutOver D.faults D.image show.now script.now disks.items result.1.items (seen out.old) (seen out.new)
             journal.old journal.new result.0 }
         ensures unwritten { (leaf : ℕ) → result.0 ≡ RunOutcome.Unfit leaf → out.new ≡ out.old }
+        ensures left { (ending : Ending) → result.0 ≡ RunOutcome.Ended ending →
+            leaves journal.new.rounds result.1.items }
         ensures same { AreSameDisks D.bytes D.faults D.faults_at_fetch D.home D.image D.sound disks.items
             result.1.items };
 
     /// Runs it as `run` does, and gives the blocks that it leaves bound, with the resume point.
-    fn run_pool<O: Sink, D: Disk + Drop>(
+    fn run_pool<O: Sink>(
         &self,
         alloc: Global,
         script: &Script,

@@ -9,9 +9,9 @@ ghost use Rattle.zio_report.specs.declared.report.Show.TheVariants.{Summary};
 ghost use Rattle.zio_report.specs.Meanings.{IsEmptyJournal};
 ghost use Rattle.zio_command.specs.Codes.{ScriptEnds};
 ghost use Rattle.zio_command.specs.Modes.{running};
-ghost use Rattle.zio_command.specs.Outcomes.{Ends, IsEachBack};
+ghost use Rattle.zio_command.specs.Outcomes.{Ends, IsEachBack, IsEnding};
 ghost use Rattle.zio_command.specs.Seen.{shelf_by, sink_by};
-ghost use Rattle.zio_command.specs.Shelves.{KeepOthers};
+ghost use Rattle.zio_command.specs.Shelves.{AreLeft, KeepOthers};
 ghost use Rattle.zio_command.specs.Words.{AreImages, IsWithin};
 
 use crate::engines::Engines;
@@ -37,7 +37,7 @@ pub(crate) fn write_generated<O: Sink>(alloc: Global, seed: u32, n: u32, out: &m
 }
 
 /// Runs that script over the images of these names, and writes its summary.
-pub(crate) fn run_generated<E: Engines, O: Sink, H: Shelf>(
+pub(crate) fn run_generated<H: Shelf, E: Engines<H::Disk>, O: Sink>(
     alloc: Global,
     seed: u32,
     n: u32,
@@ -59,6 +59,9 @@ where
         (script : Script) × IsScriptOf (script_text seed n) script
         × ScriptEnds (running Summary) script names.now (sink out.old) (sink out.new) (saw shelf.old)
         (saw shelf.new) journal.old journal.new result.code }
+    ensures left { IsEnding result.code → H.tells shelf.old →
+        AreLeft H.Disk.image H.Disk.keeps (E.leaves journal.new.rounds) names.now (H.image shelf.new)
+        (H.keeps shelf.new) }
     ensures back { IsEachBack (H.fetches shelf.old) (H.fetches shelf.new) (H.returns shelf.old) (H.returns shelf.new) }
     ensures tells { H.tells shelf.old ↔ H.tells shelf.new }
     ensures home { H.tells shelf.old → KeepOthers names.now (H.image shelf.old) (H.image shelf.new) (H.out shelf.old)

@@ -3,6 +3,7 @@
 ghost use Rattle.std.specs.Prelude.{◌≡◌, ◌≤◌, ◌⊎◌, ℕ, List as Seq, IfOk, IsErrOf, length, map};
 ghost use Rattle.std.specs.List.{AllByRecursion};
 ghost use Rattle.zio_script.specs.Grammar.{IsScriptOf};
+ghost use Rattle.zio_gang.specs.declared.ending.Ending.{Ending};
 ghost use Rattle.zio_disks.specs.Disks.{AreSameDisks};
 ghost use Rattle.zio_report.specs.Meanings.{IsEmptyJournal};
 ghost use Rattle.zio_command.specs.Grounds.{CameOutOver, IsSettingOf};
@@ -23,7 +24,7 @@ use zio_script::Script;
 use zio_types::{Journal, List, Top};
 
 /// Runs the script over disks whose sizes were measured, and hands them back.
-pub(crate) fn run_on_disks<E: Engines, O: Sink, D: Disk + Drop>(
+pub(crate) fn run_on_disks<D: Disk + Drop, E: Engines<D>, O: Sink>(
     alloc: Global,
     script: &Script,
     show: &Show,
@@ -41,6 +42,8 @@ pub(crate) fn run_on_disks<E: Engines, O: Sink, D: Disk + Drop>(
         CameOutOver D.faults D.image show.now script.now disks.items result.1.items (seen out.old) (seen out.new)
         journal.old journal.new result.0 }
     ensures unwritten { (leaf : ℕ) → result.0 ≡ RunOutcome.Unfit leaf → out.new ≡ out.old }
+    ensures left { (ending : Ending) → result.0 ≡ RunOutcome.Ended ending →
+        E.leaves journal.new.rounds result.1.items }
     ensures same { AreSameDisks D.bytes D.faults D.faults_at_fetch D.home D.image D.sound disks.items result.1.items }
 {
     match pool_over(alloc, script, disks.as_slice()) {

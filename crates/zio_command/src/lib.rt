@@ -33,7 +33,7 @@ pub use image::{IMAGE_LEN_MAX, IMAGE_LEN_MIN};
 pub use laws::accepted_scripts_have_lawful_pools;
 pub use lines::{CODE_DEVICE, CODE_MEMORY, CODE_SINK, CODE_SOURCE, end_with};
 pub use mode::RunMode;
-pub use names::IMAGES_MAX;
+pub use names::{IMAGES_MAX, are_images};
 pub use options::{WORKERS_MAX, WORKERS_USUAL};
 pub use outcome::{RunOutcome, outcome_of};
 pub use shelf::{ImagesFault, fetch_images, give_back_images};

@@ -7,7 +7,7 @@ ghost use Rattle.zio_command.specs.Words.{AreImages, AreNames, IsImageName, is_a
 pub const IMAGES_MAX: usize = 16;
 
 /// The words are the names of 1 to 16 images.
-pub(crate) fn are_images(words: &[String]) -> bool
+pub fn are_images(words: &[String]) -> bool
     ensures { IsTrue result ↔ AreImages (map string_bytes words.now) }
 {
     !words.is_empty() && words.len() <= IMAGES_MAX && are_names(words)

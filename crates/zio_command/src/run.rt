@@ -1,13 +1,14 @@
 //! The run of a script over the images of a command.
 
-ghost use Rattle.std.specs.Prelude.{◌≡◌, ◌↔◌, ℕ, List as Seq, length};
+ghost use Rattle.std.specs.Prelude.{◌≡◌, ◌↔◌, ℕ, List as Seq, false, length};
 ghost use Rattle.std.specs.List.{AllByRecursion};
 ghost use Rattle.zio_script.specs.Grammar.{IsScriptOf};
+ghost use Rattle.zio_gang.specs.declared.ending.Ending.{Ending};
 ghost use Rattle.zio_report.specs.Meanings.{IsEmptyJournal};
 ghost use Rattle.zio_command.specs.Codes.{CameOut, RunEnds, ScriptEnds};
-ghost use Rattle.zio_command.specs.Outcomes.{IsEachBack};
+ghost use Rattle.zio_command.specs.Outcomes.{IsEachBack, IsEnding};
 ghost use Rattle.zio_command.specs.Seen.{shelf_by, sink_by};
-ghost use Rattle.zio_command.specs.Shelves.{KeepOthers};
+ghost use Rattle.zio_command.specs.Shelves.{AreLeft, KeepOthers};
 ghost use Rattle.zio_command.specs.Words.{AreImages};
 
 use crate::engines::Engines;
@@ -24,7 +25,7 @@ use zio_types::{Journal, Status, Text};
 
 /// Runs the script that a text is over the images of these names, and ends with its code: 2 where the text is no
 /// script, 3 where a leaf has no image of a lawful size.
-pub(crate) fn run_text<E: Engines, O: Sink, H: Shelf>(
+pub(crate) fn run_text<H: Shelf, E: Engines<H::Disk>, O: Sink>(
     alloc: Global,
     text: &[u8],
     mode: &RunMode,
@@ -45,6 +46,9 @@ where
         RunEnds (λ told. told ≡ text.now) mode.now names.now (sink out.old) (sink out.new) (saw shelf.old)
         (saw shelf.new)
         journal.old journal.new result.code }
+    ensures left { mode.now.scrubs ≡ false → IsEnding result.code → H.tells shelf.old →
+        AreLeft H.Disk.image H.Disk.keeps (E.leaves journal.new.rounds) names.now (H.image shelf.new)
+        (H.keeps shelf.new) }
     ensures unfetched { result.code ≡ 2 → shelf.new ≡ shelf.old }
     ensures back { IsEachBack (H.fetches shelf.old) (H.fetches shelf.new) (H.returns shelf.old) (H.returns shelf.new) }
     ensures tells { H.tells shelf.old ↔ H.tells shelf.new }
@@ -62,7 +66,7 @@ where
 }
 
 /// The same of a script.
-fn run_script_on<E: Engines, O: Sink, H: Shelf>(
+fn run_script_on<H: Shelf, E: Engines<H::Disk>, O: Sink>(
     alloc: Global,
     script: &Script,
     mode: &RunMode,
@@ -83,6 +87,9 @@ where
         let saw = shelf_by H.tells H.image H.out H.faults H.disk_faults H.fetches H.returns H.last_size in
         ScriptEnds mode.now script.now names.now (sink out.old) (sink out.new) (saw shelf.old) (saw shelf.new)
         journal.old journal.new result.code }
+    ensures left { mode.now.scrubs ≡ false → IsEnding result.code → H.tells shelf.old →
+        AreLeft H.Disk.image H.Disk.keeps (E.leaves journal.new.rounds) names.now (H.image shelf.new)
+        (H.keeps shelf.new) }
     ensures back { IsEachBack (H.fetches shelf.old) (H.fetches shelf.new) (H.returns shelf.old) (H.returns shelf.new) }
     ensures tells { H.tells shelf.old ↔ H.tells shelf.new }
     ensures home { H.tells shelf.old → KeepOthers names.now (H.image shelf.old) (H.image shelf.new) (H.out shelf.old)
@@ -103,7 +110,7 @@ where
 }
 
 /// Fetches the images, runs the script over them and gives them back.
-fn run_on_shelf<E: Engines, O: Sink, H: Shelf>(
+fn run_on_shelf<H: Shelf, E: Engines<H::Disk>, O: Sink>(
     alloc: Global,
     script: &Script,
     mode: &RunMode,
@@ -125,6 +132,9 @@ where
         CameOut mode.now script.now names.now (sink out.old) (sink out.new) (saw shelf.old) (saw shelf.new)
         journal.old journal.new result }
     ensures unwritten { (leaf : ℕ) → result ≡ RunOutcome.Unfit leaf → out.new ≡ out.old }
+    ensures left { mode.now.scrubs ≡ false → (ending : Ending) → result ≡ RunOutcome.Ended ending →
+        H.tells shelf.old → AreLeft H.Disk.image H.Disk.keeps (E.leaves journal.new.rounds) names.now
+        (H.image shelf.new) (H.keeps shelf.new) }
     ensures back { IsEachBack (H.fetches shelf.old) (H.fetches shelf.new) (H.returns shelf.old) (H.returns shelf.new) }
     ensures tells { H.tells shelf.old ↔ H.tells shelf.new }
     ensures home { H.tells shelf.old → KeepOthers names.now (H.image shelf.old) (H.image shelf.new) (H.out shelf.old)

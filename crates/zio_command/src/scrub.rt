@@ -1,9 +1,10 @@
 //! The run of a script with a scrub of its pool behind it.
 
-ghost use Rattle.std.specs.Prelude.{◌≡◌, ◌≤◌, ℕ, List as Seq, IfErr, OnOk, length, map};
+ghost use Rattle.std.specs.Prelude.{◌≡◌, ◌≤◌, ℕ, List as Seq, IfErr, OnOk, false, length, map};
 ghost use Rattle.std.specs.List.{AllByRecursion};
 ghost use Rattle.zio_script.specs.Grammar.{IsScriptOf};
 ghost use Rattle.zio_cksum.specs.Images.{Images};
+ghost use Rattle.zio_gang.specs.declared.ending.Ending.{Ending as Ended};
 ghost use Rattle.zio_gang.specs.Trees.{sizes_of};
 ghost use Rattle.zio_disks.specs.Disks.{AreSameDisks};
 ghost use Rattle.zio_disks.specs.Whole.{IsWholeTree};
@@ -31,7 +32,7 @@ use zio_suspend::PoolEnd;
 use zio_types::Journal;
 
 /// Runs the script in this mode over disks whose sizes were measured, and hands them back.
-pub(crate) fn run_in_mode<E: Engines, O: Sink, D: Disk + Drop>(
+pub(crate) fn run_in_mode<D: Disk + Drop, E: Engines<D>, O: Sink>(
     alloc: Global,
     script: &Script,
     mode: &RunMode,
@@ -49,6 +50,8 @@ pub(crate) fn run_in_mode<E: Engines, O: Sink, D: Disk + Drop>(
         CameOutIf mode.now.scrubs D.faults D.image mode.now.show script.now disks.items result.1.items (seen out.old)
         (seen out.new) journal.old journal.new result.0 }
     ensures unwritten { (leaf : ℕ) → result.0 ≡ RunOutcome.Unfit leaf → out.new ≡ out.old }
+    ensures left { mode.now.scrubs ≡ false → (ending : Ended) → result.0 ≡ RunOutcome.Ended ending →
+        E.leaves journal.new.rounds result.1.items }
     ensures same { AreSameDisks D.bytes D.faults D.faults_at_fetch D.home D.image D.sound disks.items result.1.items }
 {
     if mode.scrubs {
@@ -59,7 +62,7 @@ pub(crate) fn run_in_mode<E: Engines, O: Sink, D: Disk + Drop>(
 }
 
 /// Runs the script, and scrubs the blocks that it leaves bound.
-fn run_and_scrub<E: Engines, O: Sink, D: Disk + Drop>(
+fn run_and_scrub<D: Disk + Drop, E: Engines<D>, O: Sink>(
     alloc: Global,
     script: &Script,
     show: &Show,

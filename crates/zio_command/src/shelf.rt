@@ -7,7 +7,7 @@ ghost use Rattle.zio_cksum.specs.Images.{Images};
 ghost use Rattle.zio_disks.specs.Disks.{Tell};
 ghost use Rattle.zio_command.specs.Headline.{TellEach};
 ghost use Rattle.zio_command.specs.Outcomes.{HasLawfulSize, IsEachBack, counted_times};
-ghost use Rattle.zio_command.specs.Shelves.{AreFetched, AreFresh, AreOut, ComeHome, IsFirstUnlawful, added};
+ghost use Rattle.zio_command.specs.Shelves.{AreFetched, AreFresh, AreOut, ComeHome, IsFirstUnlawful, KeptComeHome, added};
 ghost use Rattle.zio_command.specs.Words.{AreImages, AreNames};
 
 use crate::image::is_lawful_size;
@@ -207,10 +207,13 @@ where
     requires home { H.tells shelf.old → (names : Seq (Seq ℕ)) × (images : Images)
         × AreOut H.Disk.home H.Disk.image (H.out shelf.old) names images disks.items }
 
-    // Each is at home under its name with the image that it has.
+    // Each is at home under its name with the image that it has, and with what it keeps.
     ensures home { H.tells shelf.old → (names : Seq (Seq ℕ)) (images : Images) →
         AreOut H.Disk.home H.Disk.image (H.out shelf.old) names images disks.items →
         ComeHome names images (H.image shelf.old) (H.image shelf.new) (H.out shelf.old) (H.out shelf.new) }
+    ensures stable_home { H.tells shelf.old → (names : Seq (Seq ℕ)) (images : Images) →
+        AreOut H.Disk.home H.Disk.image (H.out shelf.old) names images disks.items →
+        KeptComeHome H.Disk.keeps names disks.items (H.keeps shelf.old) (H.keeps shelf.new) }
     ensures tells { H.tells shelf.old ↔ H.tells shelf.new }
     ensures returns { H.returns shelf.new ≡ counted_times (length disks.items) (H.returns shelf.old) }
 
@@ -239,6 +242,9 @@ where
     ensures home { H.tells shelf.old → (names : Seq (Seq ℕ)) (images : Images) →
         AreOut H.Disk.home H.Disk.image (H.out shelf.old) names images disks →
         ComeHome names images (H.image shelf.old) (H.image shelf.new) (H.out shelf.old) (H.out shelf.new) }
+    ensures stable_home { H.tells shelf.old → (names : Seq (Seq ℕ)) (images : Images) →
+        AreOut H.Disk.home H.Disk.image (H.out shelf.old) names images disks →
+        KeptComeHome H.Disk.keeps names disks (H.keeps shelf.old) (H.keeps shelf.new) }
     ensures tells { H.tells shelf.old ↔ H.tells shelf.new }
     ensures returns { H.returns shelf.new ≡ counted_times (length disks) (H.returns shelf.old) }
     ensures rose { AllByRecursion (λ n. n < count_max) (map H.Disk.faults_at_fetch disks) →

@@ -18,3 +18,9 @@ asked_by [] = None
 asked_by (word ∷ []) = asked_by_one word
 asked_by (first ∷ word ∷ []) = asked_by_two first word
 asked_by (first ∷ second ∷ third ∷ words) = None
+
+-- `--help`, `-h` or `--version`, alone
+abbrev pub asked_alone : List (List ℕ) → Option Question
+asked_alone [] = None
+asked_alone (word ∷ []) = asked_by_one word
+asked_alone (first ∷ second ∷ words) = None

@@ -1,7 +1,7 @@
 //! Questions about the program itself, and their answers.
 
 ghost use Rattle.std.specs.Prelude.{◌≡◌, map, string_bytes};
-ghost use Rattle.zio_program.specs.Questions.{asked_by, asked_by_one, asked_by_two, is_help};
+ghost use Rattle.zio_program.specs.Questions.{asked_alone, asked_by, asked_by_one, asked_by_two, is_help};
 
 use clap::{Arg, ArgAction, Command};
 use std::alloc::{AllocError, Global};
@@ -60,6 +60,16 @@ pub fn asked(words: &[String]) -> Option<Question>
     match words {
         [word] => asked_by_one(word.as_str()),
         [first, word] => asked_by_two(first.as_str(), word.as_str()),
+        _ => None,
+    }
+}
+
+/// The same in a program without commands.
+pub fn asked_alone(words: &[String]) -> Option<Question>
+    ensures { result ≡ asked_alone (map string_bytes words.now) }
+{
+    match words {
+        [only] => asked_by_one(only.as_str()),
         _ => None,
     }
 }

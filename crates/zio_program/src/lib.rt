@@ -5,6 +5,6 @@ mod about;
 mod told;
 mod watched;
 
-pub use about::{About, Question, asked, text_of};
-pub use told::{line_of, why_text};
+pub use about::{About, Question, asked, asked_alone, text_of};
+pub use told::{behind_command, line_of, why_text};
 pub use watched::Watched;

@@ -23,8 +23,8 @@ pub fn why_text(why: u32) -> &'static str {
     }
 }
 
-/// The line for a code other than 0, without a newline. `usage` has the forms of the program's commands, and `front` is
-/// what the output begins with.
+/// The line for a code other than 0, without a newline. `usage` has the forms of the program's commands, `front` is what
+/// the output begins with, and `words` are those behind the command, if the program has commands.
 pub fn line_of<R: Files>(
     rt: &R,
     alloc: Global,
@@ -73,7 +73,7 @@ fn script_line(alloc: Global, front: &[u8]) -> Result<String, AllocError> {
 }
 
 /// The words behind the command: those of `load` stand behind its two numbers.
-fn behind_command(words: &[String]) -> &[String] {
+pub fn behind_command(words: &[String]) -> &[String] {
     match words {
         [first, _, _, rest @ ..] if first.as_str() == "load" => rest,
         [_, rest @ ..] => rest,
@@ -86,7 +86,7 @@ fn behind_command(words: &[String]) -> &[String] {
 fn image_name<'a>(words: &'a [String], leaf: u32) -> Option<&'a str> {
     let mut left = leaf;
     let mut is_value = false;
-    for word in behind_command(words) {
+    for word in words {
         let word = word.as_str();
         if is_value || word.starts_with('-') {
             is_value = word == "--picks" || word == "--workers";

@@ -1,6 +1,15 @@
 //! The engine with workers, made for a command.
 
-ghost use Rattle.std.specs.Prelude.{◌≡◌};
+ghost use Rattle.std.specs.Prelude.{◌≡◌, ◌≤◌, ◌⊎◌, ℕ, List as Seq, IfErr, IfOk, length, map};
+ghost use Rattle.zio_script.specs.Grammar.{IsScriptOf};
+ghost use Rattle.zio_cksum.specs.Images.{Images};
+ghost use Rattle.zio_gang.specs.Trees.{sizes_of};
+ghost use Rattle.zio_disks.specs.Disks.{AreSameDisks, Tell};
+ghost use Rattle.zio_disks.specs.Whole.{IsWholeTree};
+ghost use Rattle.zio_report.specs.Meanings.{IsEmptyJournal, course_of};
+ghost use Rattle.zio_suspend.specs.Pools.{AreBlocks, AreBoundIn};
+ghost use Rattle.zio_command.specs.Grounds.{CameOutOver, HasRunOver, IsSettingOf, IsUnbegun, WasCutOver};
+ghost use Rattle.zio_command.specs.Seen.{sink_by};
 ghost use denote.Param.Send.{IsSync};
 
 use crate::engines::{run_by, run_pool_by};
@@ -24,8 +33,10 @@ pub(crate) struct Crews<'g, Rt: Threads + Wait + Sync> {
     pub(crate) workers: u32,
 }
 
-impl<'g, Rt: Threads + Wait + Sync> Engines for Crews<'g, Rt> {
+impl<'g, Rt: Threads + Wait + Sync, D: Disk + Drop> Engines<D> for Crews<'g, Rt> {
     ghost Can = { IsSync Rt.row };
+
+    ghost leaves = { λ rounds disks. Unit {0} };
 
     fn asked_by(self, command: &Command) -> Crews<'g, Rt> {
         match command {
@@ -37,7 +48,7 @@ impl<'g, Rt: Threads + Wait + Sync> Engines for Crews<'g, Rt> {
         }
     }
 
-    fn run<O: Sink, D: Disk + Drop>(
+    fn run<O: Sink>(
         &self,
         alloc: Global,
         script: &Script,
@@ -47,14 +58,27 @@ impl<'g, Rt: Threads + Wait + Sync> Engines for Crews<'g, Rt> {
         disks: Vec<D>,
         out: &mut O,
         journal: &mut Journal,
-    ) -> (RunOutcome, Vec<D>) {
+    ) -> (RunOutcome, Vec<D>)
+        requires can { IsSync Rt.row }
+        requires script { (text : Seq ℕ) × IsScriptOf text script.now }
+        requires setting { IsSettingOf script.now (map D.bytes disks.items) setting }
+        requires tops { tops ≡ setting.tops }
+        requires few { length disks.items ≤ 16 }
+        requires empty { IsEmptyJournal journal.old }
+        ensures outcome { let seen = sink_by O.holds O.faults in
+            CameOutOver D.faults D.image show.now script.now disks.items result.1.items (seen out.old) (seen out.new)
+            journal.old journal.new result.0 }
+        ensures unwritten { (leaf : ℕ) → result.0 ≡ RunOutcome.Unfit leaf → out.new ≡ out.old }
+        ensures same { AreSameDisks D.bytes D.faults D.faults_at_fetch D.home D.image D.sound disks.items
+            result.1.items }
+    {
         let crew = Crew::new(self.rt, self.workers);
         run_by(
             alloc, script, show, setting, tops, FirstPicks, crew, disks, out, journal,
         )
     }
 
-    fn run_pool<O: Sink, D: Disk + Drop>(
+    fn run_pool<O: Sink>(
         &self,
         alloc: Global,
         script: &Script,
@@ -64,7 +88,26 @@ impl<'g, Rt: Threads + Wait + Sync> Engines for Crews<'g, Rt> {
         disks: Vec<D>,
         out: &mut O,
         journal: &mut Journal,
-    ) -> (Result<PoolEnd, RunFault>, Vec<D>) {
+    ) -> (Result<PoolEnd, RunFault>, Vec<D>)
+        requires can { IsSync Rt.row }
+        requires script { (text : Seq ℕ) × IsScriptOf text script.now }
+        requires setting { IsSettingOf script.now (map D.bytes disks.items) setting }
+        requires tops { tops ≡ setting.tops }
+        requires few { length disks.items ≤ 16 }
+        requires empty { IsEmptyJournal journal.old }
+        ensures whole { let seen = sink_by O.holds O.faults in IfOk result.0 (λ end.
+            HasRunOver D.faults D.image show.now script.now end.ending disks.items result.1.items (seen out.old)
+            (seen out.new) journal.new) }
+        ensures bound { IfOk result.0 (λ end. (before : Images) → Tell D.image disks.items before →
+            AreBoundIn (course_of script.now before journal.new).state end.point end.bound) }
+        ensures placed { IfOk result.0 (λ end. AreBlocks IsWholeTree (sizes_of setting.tops) end.bound) }
+        ensures cut { let seen = sink_by O.holds O.faults in IfErr result.0 (λ fault.
+            WasCutOver D.faults D.image show.now script.now fault disks.items result.1.items (seen out.old)
+            (seen out.new) journal.new
+            ⊎ IsUnbegun fault disks.items result.1.items (seen out.old) (seen out.new) journal.old journal.new) }
+        ensures same { AreSameDisks D.bytes D.faults D.faults_at_fetch D.home D.image D.sound disks.items
+            result.1.items }
+    {
         let crew = Crew::new(self.rt, self.workers);
         run_pool_by(
             alloc, script, show, setting, tops, FirstPicks, crew, disks, out, journal,

@@ -31,8 +31,10 @@ pub(crate) struct OneThread {
     pub(crate) picks: Option<u64>,
 }
 
-impl Engines for OneThread {
+impl<D: Disk + Drop> Engines<D> for OneThread {
     ghost Can = { Unit {0} };
+
+    ghost leaves = { λ rounds disks. Unit {0} };
 
     fn asked_by(self, command: &Command) -> OneThread
         ensures { result.picks ≡ picks_of command.now }
@@ -45,7 +47,7 @@ impl Engines for OneThread {
         }
     }
 
-    fn run<O: Sink, D: Disk + Drop>(
+    fn run<O: Sink>(
         &self,
         alloc: Global,
         script: &Script,
@@ -55,7 +57,19 @@ impl Engines for OneThread {
         disks: Vec<D>,
         out: &mut O,
         journal: &mut Journal,
-    ) -> (RunOutcome, Vec<D>) {
+    ) -> (RunOutcome, Vec<D>)
+        requires script { (text : Seq ℕ) × IsScriptOf text script.now }
+        requires setting { IsSettingOf script.now (map D.bytes disks.items) setting }
+        requires tops { tops ≡ setting.tops }
+        requires few { length disks.items ≤ 16 }
+        requires empty { IsEmptyJournal journal.old }
+        ensures outcome { let seen = sink_by O.holds O.faults in
+            CameOutOver D.faults D.image show.now script.now disks.items result.1.items (seen out.old) (seen out.new)
+            journal.old journal.new result.0 }
+        ensures unwritten { (leaf : ℕ) → result.0 ≡ RunOutcome.Unfit leaf → out.new ≡ out.old }
+        ensures same { AreSameDisks D.bytes D.faults D.faults_at_fetch D.home D.image D.sound disks.items
+            result.1.items }
+    {
         match self.picks {
             Some(seed) => run_by(
                 alloc,
@@ -75,7 +89,7 @@ impl Engines for OneThread {
         }
     }
 
-    fn run_pool<O: Sink, D: Disk + Drop>(
+    fn run_pool<O: Sink>(
         &self,
         alloc: Global,
         script: &Script,
@@ -85,7 +99,25 @@ impl Engines for OneThread {
         disks: Vec<D>,
         out: &mut O,
         journal: &mut Journal,
-    ) -> (Result<PoolEnd, RunFault>, Vec<D>) {
+    ) -> (Result<PoolEnd, RunFault>, Vec<D>)
+        requires script { (text : Seq ℕ) × IsScriptOf text script.now }
+        requires setting { IsSettingOf script.now (map D.bytes disks.items) setting }
+        requires tops { tops ≡ setting.tops }
+        requires few { length disks.items ≤ 16 }
+        requires empty { IsEmptyJournal journal.old }
+        ensures whole { let seen = sink_by O.holds O.faults in IfOk result.0 (λ end.
+            HasRunOver D.faults D.image show.now script.now end.ending disks.items result.1.items (seen out.old)
+            (seen out.new) journal.new) }
+        ensures bound { IfOk result.0 (λ end. (before : Images) → Tell D.image disks.items before →
+            AreBoundIn (course_of script.now before journal.new).state end.point end.bound) }
+        ensures placed { IfOk result.0 (λ end. AreBlocks IsWholeTree (sizes_of setting.tops) end.bound) }
+        ensures cut { let seen = sink_by O.holds O.faults in IfErr result.0 (λ fault.
+            WasCutOver D.faults D.image show.now script.now fault disks.items result.1.items (seen out.old)
+            (seen out.new) journal.new
+            ⊎ IsUnbegun fault disks.items result.1.items (seen out.old) (seen out.new) journal.old journal.new) }
+        ensures same { AreSameDisks D.bytes D.faults D.faults_at_fetch D.home D.image D.sound disks.items
+            result.1.items }
+    {
         match self.picks {
             Some(seed) => run_pool_by(
                 alloc,
@@ -133,8 +165,8 @@ pub(crate) fn run_by<O: Sink, D: Disk + Drop, P: Picks + Drop, H: Helper<NodeBox
 {
     let images = disks.len() as u32;
     match Graph::new(alloc, setting, disks, tops, picks, helper) {
-        Ok(engine) => {
-            let (ended, disks) = run_rounds(alloc, script, show, images, engine, out, journal);
+        Ok(graph) => {
+            let (ended, disks) = run_rounds(alloc, script, show, images, graph, out, journal);
             (outcome_of(ended), disks)
         }
         Err(DisksBack { disks }) => (RunOutcome::Cut(RunFault::Memory), disks),
@@ -174,7 +206,7 @@ pub(crate) fn run_pool_by<O: Sink, D: Disk + Drop, P: Picks + Drop, H: Helper<No
 {
     let images = disks.len() as u32;
     match Graph::new(alloc, setting, disks, tops, picks, helper) {
-        Ok(engine) => run_pool_rounds(alloc, script, show, images, engine, out, journal),
+        Ok(graph) => run_pool_rounds(alloc, script, show, images, graph, out, journal),
         Err(DisksBack { disks }) => (Err(RunFault::Memory), disks),
     }
 }

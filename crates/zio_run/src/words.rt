@@ -16,7 +16,7 @@ ghost use Rattle.zio_command.specs.Commands.{CommandEnds, image_names, mode_of, 
 ghost use Rattle.zio_command.specs.Headline.{HeadlineOf, TellEach};
 ghost use Rattle.zio_command.specs.Outcomes.{Ends, HasLawfulSize, IsEachBack, IsEnding, IsSerialCode, rest_of, words_line};
 ghost use Rattle.zio_command.specs.Seen.{shelf_by, sink_by, source_by};
-ghost use Rattle.zio_command.specs.Shelves.{KeepOthers};
+ghost use Rattle.zio_command.specs.Shelves.{AreLeft, KeepOthers};
 ghost use Rattle.zio_command.specs.Tops.{HaveImages, leaves_of};
 ghost use Rattle.zio_command.specs.Words.{IsCommandOf, IsNoCommandOf};
 
@@ -29,7 +29,7 @@ use zio_types::{Journal, Status};
 
 /// Does what the words of a command ask for, by these engines, and ends with its code. The words are those of the program
 /// on one thread, or of that with workers.
-pub(crate) fn run_words<E: Engines, S: Source, O: Sink, H: Shelf>(
+pub(crate) fn run_words<H: Shelf, E: Engines<H::Disk>, S: Source, O: Sink>(
     alloc: Global,
     serial: bool,
     engines: E,
@@ -79,6 +79,12 @@ where
         TellEach (H.image shelf.old) (image_names command) images → IsHealed read → NoSmallRefused journal.new.places →
         AcceptsWhatWasGiven read images journal.new.places →
         IsStoredPlainly read images journal.new.places × (result.code ≡ 0) }
+
+    // What the engine leaves of the disks, where they aren't scrubbed.
+    ensures left { (command : Asked) → IsCommandOf serial (map string_bytes words.now) command → runs command ≡ true →
+        (mode_of command).scrubs ≡ false → IsEnding result.code → H.tells shelf.old →
+        AreLeft H.Disk.image H.Disk.keeps (E.leaves journal.new.rounds) (image_names command) (H.image shelf.new)
+        (H.keeps shelf.new) }
 
     // No other code comes where all is in order and no count of faults rose.
     ensures complete { (command : Asked) (text : Seq ℕ) (read : Script) (images : Images) →

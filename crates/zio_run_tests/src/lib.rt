@@ -6,6 +6,8 @@
 #![tactic(auto)]
 
 #[cfg(test)]
+mod durable;
+#[cfg(test)]
 mod failing;
 #[cfg(test)]
 mod forgetful_shelf;

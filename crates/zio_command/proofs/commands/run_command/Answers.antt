@@ -6,9 +6,10 @@ use Rattle.zio_report.specs.declared.report.Show.TheVariants.{Summary}
 use Rattle.zio_command.specs.declared.mode.RunMode.{RunMode}
 use Rattle.zio_command.specs.declared.words.Command.{Command}
 use Rattle.zio_command.specs.Codes.{RunEnds, ScriptEnds}
-use Rattle.zio_command.specs.Commands.{CommandEnds, WasUnread, reads}
+use Rattle.zio_command.specs.Commands.{CommandEnds, WasUnread, image_names, mode_of, reads, runs}
 use Rattle.zio_command.specs.Modes.{running, scrubbing}
 use Rattle.zio_command.specs.Seen.{shelf_by, sink_by, source_by}
+use Rattle.zio_command.specs.Shelves.{AreLeft}
 use Rattle.zio_command.specs.Words.{AreImages, IsLawfulCommand}
 use Rattle.zio_command.proofs.CommandLemmas.{script_never}
 use Rattle.zio_command.proofs.commands.run_command.Goals as goal
@@ -83,6 +84,30 @@ returns-clause-ends g c =
     subst (λ ns. (script : Script) × IsScriptOf text script × ScriptEnds (running Summary) script ns out wrote old new before journal code)
     c.as_slice-in-Load.ensures c.run_generated.ensures.ends in
     subst (λ (x : Command). CommandEnds x (source c.args.script.now) (source c.args.script.now) out wrote old new before journal code) (sym c.in-Load.is) ends
+
+pub returns-in-Run-clause-left : goal.returns-in-Run-clause-left
+returns-in-Run-clause-left g c r plain e tells =
+    let left = c.run_source.ensures.left (ap (λ (m : RunMode). m.scrubs) c.running.ensures) e tells in
+    let image = g.H.Shelf.image c.run_source.new.shelf in
+    let keeps = g.H.Shelf.keeps c.run_source.new.shelf in
+    let leaves = g.E.Engines.leaves c.run_source.new.journal.rounds in
+    subst (λ (x : Command). AreLeft g.H.Disk.Disk.image g.H.Disk.Disk.keeps leaves (image_names x) image keeps) (sym c.in-Run.is)
+    (subst (λ ns. AreLeft g.H.Disk.Disk.image g.H.Disk.Disk.keeps leaves ns image keeps) c.as_slice.ensures left)
+
+pub returns-in-Scrub-clause-left : goal.returns-in-Scrub-clause-left
+returns-in-Scrub-clause-left g c r plain e tells = let no : true ≡ false = ap (λ (x : Command). (mode_of x).scrubs) (sym c.in-Scrub.is) ∙ plain in cc
+
+pub returns-in-Gen-clause-left : goal.returns-in-Gen-clause-left
+returns-in-Gen-clause-left g c r plain e tells = let no : false ≡ true = ap (λ (x : Command). runs x) (sym c.in-Gen.is) ∙ r in cc
+
+pub returns-clause-left : goal.returns-clause-left
+returns-clause-left g c r plain e tells =
+    let left = c.run_generated.ensures.left e tells in
+    let image = g.H.Shelf.image c.run_generated.new.shelf in
+    let keeps = g.H.Shelf.keeps c.run_generated.new.shelf in
+    let leaves = g.E.Engines.leaves c.run_generated.new.journal.rounds in
+    subst (λ (x : Command). AreLeft g.H.Disk.Disk.image g.H.Disk.Disk.keeps leaves (image_names x) image keeps) (sym c.in-Load.is)
+    (subst (λ ns. AreLeft g.H.Disk.Disk.image g.H.Disk.Disk.keeps leaves ns image keeps) c.as_slice-in-Load.ensures left)
 
 pub returns-in-Gen-clause-rest : goal.returns-in-Gen-clause-rest
 returns-in-Gen-clause-rest g c r five eight text told = let no : false ≡ true = ap (λ (x : Command). reads x) (sym c.in-Gen.is) ∙ r in cc

@@ -48,6 +48,12 @@ returns-in-Err-Memory-clause-ends g c =
     let saw = shelf_by g.H.Shelf.tells g.H.Shelf.image g.H.Shelf.out g.H.Shelf.faults g.H.Shelf.disk_faults g.H.Shelf.fetches g.H.Shelf.returns g.H.Shelf.last_size in
     inr (Wanting refl (wanting (sink c.args.out.now) (saw c.args.shelf.now) c.args.journal.now))
 
+pub returns-in-Err-Failed-clause-left : goal.returns-in-Err-Failed-clause-left
+returns-in-Err-Failed-clause-left g c plain e tells = absurd (no_ending 5 5 e refl (inr (inr (inr (inl refl)))))
+
+pub returns-in-Err-Memory-clause-left : goal.returns-in-Err-Memory-clause-left
+returns-in-Err-Memory-clause-left g c plain e tells = absurd (no_ending 8 8 e refl (inr (inr (inr (inr (inr (inr refl)))))))
+
 pub returns-in-Err-Failed-clause-source_steady : goal.returns-in-Err-Failed-clause-source_steady
 returns-in-Err-Failed-clause-source_steady g c e = absurd (no_ending 5 5 e refl (inr (inr (inr (inl refl)))))
 

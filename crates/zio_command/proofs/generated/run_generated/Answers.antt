@@ -1,4 +1,4 @@
-use Rattle.std.proofs.Common.{◌≡◌, List, ℕ, refl, sym, ◌∙◌, subst}
+use Rattle.std.proofs.Common.{◌≡◌, List, ℕ, ap, inr, refl, sym, ◌∙◌, subst}
 use Rattle.zio_gen.specs.Generated.{script_text}
 use Rattle.zio_report.specs.declared.report.Show.TheVariants.{Summary}
 use Rattle.zio_script.specs.Grammar.{IsScriptOf}
@@ -8,7 +8,7 @@ use Rattle.zio_command.specs.Codes.ScriptEnds.{Wanting}
 use Rattle.zio_command.specs.Modes.{running}
 use Rattle.zio_command.specs.Seen.{shelf_by, sink_by}
 use Rattle.zio_command.proofs.CommandLemmas.{wanting}
-use Rattle.zio_command.proofs.EndLemmas.{known_ends}
+use Rattle.zio_command.proofs.EndLemmas.{known_ends, no_ending}
 use Rattle.zio_command.proofs.TripLemmas.{KeepOthers-itself}
 use Rattle.zio_command.proofs.generated.run_generated.Goals as goal
 
@@ -24,6 +24,12 @@ returns-in-Ok-clause-ends g c =
       known_ends c.as_bytes.result.now (running Summary) script.0 c.args.names.now (sink c.args.out.now) (sink c.run_text.new.out) (saw c.args.shelf.now) (saw c.run_text.new.shelf)
           c.args.journal.now c.run_text.new.journal c.run_text.result.code accepted (subst (λ (m : RunMode). RunEnds (λ told. told ≡ c.as_bytes.result.now) m c.args.names.now (sink c.args.out.now) (sink c.run_text.new.out) (saw c.args.shelf.now) (saw c.run_text.new.shelf) c.args.journal.now c.run_text.new.journal c.run_text.result.code) c.running.ensures c.run_text.ensures.ends),
     )
+
+pub returns-in-Ok-clause-left : goal.returns-in-Ok-clause-left
+returns-in-Ok-clause-left g c e tells = c.run_text.ensures.left (ap (λ (m : RunMode). m.scrubs) c.running.ensures) e tells
+
+pub returns-in-Err-clause-left : goal.returns-in-Err-clause-left
+returns-in-Err-clause-left g c e tells = absurd (no_ending 8 8 e refl (inr (inr (inr (inr (inr (inr refl)))))))
 
 pub returns-in-Err-clause-ends : goal.returns-in-Err-clause-ends
 returns-in-Err-clause-ends g c =

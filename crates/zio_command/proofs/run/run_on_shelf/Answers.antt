@@ -10,9 +10,11 @@ pub give_back_images-requires : goal.give_back_images-requires
 give_back_images-requires g c =
     let d = c.run_in_mode-outcome in
     record {
-      home = λ still. trip_out g.H.Disk.Disk.bytes g.H.Disk.Disk.faults g.H.Disk.Disk.faults_at_fetch g.H.Disk.Disk.home g.H.Disk.Disk.image g.H.Disk.Disk.sound c.args.names.now
+      home = λ still.
+          (let out = trip_out g.H.Disk.Disk.bytes g.H.Disk.Disk.faults g.H.Disk.Disk.faults_at_fetch g.H.Disk.Disk.home g.H.Disk.Disk.image g.H.Disk.Disk.sound c.args.names.now
           c.in-Ok.disks.items d.result.1.items (g.H.Shelf.image c.args.shelf.now) (g.H.Shelf.image c.fetch_images.new.shelf)
-          (g.H.Shelf.out c.args.shelf.now) (g.H.Shelf.out c.fetch_images.new.shelf) c.requires.names.names (c.in-Ok.ensures.told (c.in-Ok.ensures.tells.1 still)) d.ensures.same;
+          (g.H.Shelf.out c.args.shelf.now) (g.H.Shelf.out c.fetch_images.new.shelf) c.requires.names.names (c.in-Ok.ensures.told (c.in-Ok.ensures.tells.1 still)) d.ensures.same in
+          (c.args.names.now, out.0, out.1));
     }
 
 pub returns-in-Ok-clause-outcome : goal.returns-in-Ok-clause-outcome
@@ -75,6 +77,22 @@ returns-in-Ok-clause-home g c tells =
       unrisen = back.same;
     } in
     trip_keeps trip tells
+
+pub returns-in-Ok-clause-left : goal.returns-in-Ok-clause-left
+returns-in-Ok-clause-left g c plain ending is tells =
+    let d = c.run_in_mode-outcome in
+    let still = c.in-Ok.ensures.tells.0 tells in
+    let out = trip_out g.H.Disk.Disk.bytes g.H.Disk.Disk.faults g.H.Disk.Disk.faults_at_fetch g.H.Disk.Disk.home g.H.Disk.Disk.image g.H.Disk.Disk.sound c.args.names.now
+    c.in-Ok.disks.items d.result.1.items (g.H.Shelf.image c.args.shelf.now) (g.H.Shelf.image c.fetch_images.new.shelf)
+    (g.H.Shelf.out c.args.shelf.now) (g.H.Shelf.out c.fetch_images.new.shelf) c.requires.names.names (c.in-Ok.ensures.told tells) d.ensures.same in
+    record {
+      disks = d.result.1.items;
+      images = out.0;
+      left = d.ensures.left plain ending is;
+      told = out.1.told;
+      stored = (c.give_back_images.ensures.home still c.args.names.now out.0 out.1).told;
+      kept = (c.give_back_images.ensures.stable_home still c.args.names.now out.0 out.1).each;
+    }
 
 pub returns-in-Ok-clause-sound : goal.returns-in-Ok-clause-sound
 returns-in-Ok-clause-sound g c all =

@@ -1,7 +1,7 @@
-use Rattle.std.proofs.Common.{refl, subst}
+use Rattle.std.proofs.Common.{inr, refl, subst}
 use Rattle.zio_command.specs.Outcomes.{Ends, images_line}
 use Rattle.zio_command.specs.Seen.{shelf_by, sink_by}
-use Rattle.zio_command.proofs.EndLemmas.{cut_ends, ended_ends, unfit_ends}
+use Rattle.zio_command.proofs.EndLemmas.{cut_ends, cut_no_ending, ended_ends, line_no_ending, unfit_ends}
 use Rattle.zio_command.proofs.run.run_script_on.Goals as goal
 
 pub returns-in-Ended-clause-ends : goal.returns-in-Ended-clause-ends
@@ -29,3 +29,12 @@ returns-in-Cut-clause-ends g c =
     cut_ends c.args.mode.now c.args.script.now c.args.names.now (sink c.args.out.now) (sink c.run_on_shelf.new.out)
     (saw c.args.shelf.now) (saw c.run_on_shelf.new.shelf) c.args.journal.now c.run_on_shelf.new.journal c.in-Cut.fault c.code_for.result
     c.code_for.ensures c.in-Cut.ensures.outcome
+
+pub returns-in-Ended-clause-left : goal.returns-in-Ended-clause-left
+returns-in-Ended-clause-left g c plain e tells = c.run_on_shelf.ensures.left plain c.in-Ended.ending c.in-Ended.is tells
+
+pub returns-in-Unfit-clause-left : goal.returns-in-Unfit-clause-left
+returns-in-Unfit-clause-left g c plain e tells = absurd (line_no_ending 3 c.refuse_image.result.code (inr refl) c.refuse_image.ensures.codes_are e)
+
+pub returns-in-Cut-clause-left : goal.returns-in-Cut-clause-left
+returns-in-Cut-clause-left g c plain e tells = absurd (cut_no_ending c.in-Cut.fault c.code_for.result c.code_for.ensures e)

@@ -3,7 +3,7 @@ use Rattle.zio_script.specs.Grammar.{IsFaultOf, IsScriptOf}
 use Rattle.zio_command.specs.Codes.RunEnds.{AsScript, Wanting}
 use Rattle.zio_command.specs.Seen.{shelf_by, sink_by}
 use Rattle.zio_command.proofs.CommandLemmas.{script_never, untouched_itself, wanting}
-use Rattle.zio_command.proofs.EndLemmas.{refused_ends}
+use Rattle.zio_command.proofs.EndLemmas.{line_no_ending, no_ending, refused_ends}
 use Rattle.zio_command.proofs.TripLemmas.{KeepOthers-itself}
 use Rattle.zio_command.proofs.run.run_text.Goals as goal
 
@@ -16,6 +16,12 @@ returns-in-Ok-clause-ends g c =
 
 pub returns-in-Ok-clause-unfetched : goal.returns-in-Ok-clause-unfetched
 returns-in-Ok-clause-unfetched g c two = absurd (script_never c.run_script_on.ensures.ends 2 two (inr (inl refl)))
+
+pub returns-in-Err-Fault-clause-left : goal.returns-in-Err-Fault-clause-left
+returns-in-Err-Fault-clause-left g c plain e tells = absurd (line_no_ending 2 c.refuse_script.result.code (inl refl) c.refuse_script.ensures.codes_are e)
+
+pub returns-in-Err-Memory-clause-left : goal.returns-in-Err-Memory-clause-left
+returns-in-Err-Memory-clause-left g c plain e tells = absurd (no_ending 8 8 e refl (inr (inr (inr (inr (inr (inr refl)))))))
 
 pub returns-in-Err-Fault-clause-ends : goal.returns-in-Err-Fault-clause-ends
 returns-in-Err-Fault-clause-ends g c =

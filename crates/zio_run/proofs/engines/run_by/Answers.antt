@@ -21,7 +21,7 @@ pub returns-in-Ok-clause-outcome : goal.returns-in-Ok-clause-outcome
 returns-in-Ok-clause-outcome g c =
     let seen = sink_by g.O.Sink.holds g.O.Sink.faults in
     let script = c.args.script.now in
-    let old = c.in-Ok.engine.disks in
+    let old = c.in-Ok.graph.disks in
     let same : old ≡ c.args.disks.items = ap (λ (e : SeenGraph _). e.disks) c.in-Ok.ensures.ok in
     let sizes : length (map g.D.Disk.bytes c.args.disks.items) ≡ length old = length-map c.args.disks.items g.D.Disk.bytes ∙ ap length (sym same) in
     let have = subst (λ n. HaveImages n (leaves_of script.tops)) sizes c.requires.setting.leaves in

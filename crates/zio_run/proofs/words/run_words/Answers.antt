@@ -2,9 +2,9 @@ use Rattle.std.proofs.Common.{◌≡◌, Err, true, false, inl, inr, map, string
 use Rattle.std.specs.List.{AllByRecursion}
 use Rattle.zio_command.specs.declared.words.Command.{Command as Asked}
 use Rattle.zio_command.specs.declared.words.WordsError.{WordsError}
-use Rattle.zio_command.specs.Commands.{CommandEnds, image_names, reads, runs}
+use Rattle.zio_command.specs.Commands.{CommandEnds, image_names, mode_of, reads, runs}
 use Rattle.zio_command.specs.Seen.{shelf_by, sink_by, source_by}
-use Rattle.zio_command.specs.Shelves.{KeepOthers}
+use Rattle.zio_command.specs.Shelves.{AreLeft, KeepOthers}
 use Rattle.zio_command.proofs.CommandLemmas.{command_code, command_complete, command_ended, command_never, command_steady, command_wanting, first_name}
 use Rattle.zio_command.proofs.CountLemmas.{not_rose}
 use Rattle.zio_command.proofs.EndLemmas.{no_ending}
@@ -93,6 +93,14 @@ returns-in-Ok-clause-healed g c command is r e text read images told accepted te
     one c.run_command.ensures.ends in
     command_healed command (source c.args.script.now) (source c.run_command.new.script) out wrote old new c.args.journal.now journal code ends r e
     text read images told accepted tells each (c.healed_scripts_store_plainly.ensures text read images journal.places accepted) healed small accepts
+
+pub returns-in-Ok-clause-left : goal.returns-in-Ok-clause-left
+returns-in-Ok-clause-left g c command is r plain e tells =
+    let one = one_command_of c.args.serial (map string_bytes c.args.words.now) c.in-Ok.command command c.in-Ok.ensures.ok is in
+    let left = c.run_command.ensures.left (subst (λ (x : Asked). runs x ≡ true) (sym one) r)
+    (subst (λ (x : Asked). (mode_of x).scrubs ≡ false) (sym one) plain) e tells in
+    subst (λ (x : Asked). AreLeft g.H.Disk.Disk.image g.H.Disk.Disk.keeps (g.E.Engines.leaves c.run_command.new.journal.rounds) (image_names x)
+    (g.H.Shelf.image c.run_command.new.shelf) (g.H.Shelf.keeps c.run_command.new.shelf)) one left
 
 pub returns-in-Ok-clause-steady : goal.returns-in-Ok-clause-steady
 returns-in-Ok-clause-steady g c command is e =
@@ -214,6 +222,11 @@ returns-in-Err-Words-clause-healed g c command is r e text read images told acce
     let none = c.in-Err-Words.ensures.words (ap (λ (e : WordsError). Err e) c.in-Err-Words.field-0-is) in
     absurd (none command is)
 
+pub returns-in-Err-Words-clause-left : goal.returns-in-Err-Words-clause-left
+returns-in-Err-Words-clause-left g c command is r plain e tells =
+    let none = c.in-Err-Words.ensures.words (ap (λ (e : WordsError). Err e) c.in-Err-Words.field-0-is) in
+    absurd (none command is)
+
 pub returns-in-Err-Words-clause-steady : goal.returns-in-Err-Words-clause-steady
 returns-in-Err-Words-clause-steady g c command is e =
     let none = c.in-Err-Words.ensures.words (ap (λ (e : WordsError). Err e) c.in-Err-Words.field-0-is) in
@@ -271,6 +284,9 @@ returns-clause-headline g c command is r e text images told tells each = absurd 
 pub returns-clause-healed : goal.returns-clause-healed
 returns-clause-healed g c command is r e text read images told accepted tells each healed small accepts =
     absurd (no_ending 8 8 e refl (inr (inr (inr (inr (inr (inr refl)))))))
+
+pub returns-clause-left : goal.returns-clause-left
+returns-clause-left g c command is r plain e tells = absurd (no_ending 8 8 e refl (inr (inr (inr (inr (inr (inr refl)))))))
 
 pub returns-clause-steady : goal.returns-clause-steady
 returns-clause-steady g c command is e = (refl, refl, refl, refl)

@@ -36,13 +36,14 @@ use Rattle.zio_command.specs.Outcomes.{HasLawfulSize}
 use Rattle.zio_course.specs.Course.{AreOfRounds}
 use Rattle.zio_audit.specs.Audits.{HasAuditedSize, sizes_in}
 use Rattle.zio_audit.specs.Completions.{completions_from}
-use Rattle.zio_audit.specs.Ended.{HasEnded, HasReplayed, IsAtStart, IsJudged, IsSeenOf}
+use Rattle.zio_audit.specs.Ended.{HasEnded, HasReplayed, IsAtStart, IsJudged, IsSeenOf, IsToldOf}
 use Rattle.zio_audit.specs.PlainMatching.{HoldsCompared, compared}
 use Rattle.zio_audit.specs.Putting.{IsPutIn}
 use Rattle.zio_audit.specs.Replays.{AreSpelledIn}
-use Rattle.zio_audit.specs.Seen.{IsFirstOther, IsLineOrNext, byte_at}
+use Rattle.zio_audit.specs.Seen.{AreJudgedBy, IsFirstOther, IsLineOrNext, IsSeenIn, byte_at, verdict_of}
 use Rattle.zio_audit.specs.Texts.{plain_text, shows_bytes, text_of_run}
-use Rattle.zio_audit.specs.Verdicts.{Case, HasCompletions, HasLawfulEntries, IsReadAs, IsScriptIn, IsTextOf, entries_of, journal_spelled, orders_of}
+use Rattle.zio_audit.specs.Verdicts.{Case, HasCompletions, HasLawfulEntries, IsReadAs, IsScriptIn, IsTextOf, IsVerdict, entries_of, journal_spelled, orders_of}
+use Rattle.zio_audit.specs.declared.seen.Seen.{Seen}
 use Rattle.zio_audit.specs.declared.seen.Seen.TheVariants.{Images, Text}
 use Rattle.zio_audit.specs.declared.verdict.Verdict.TheVariants.{Yes, No}
 use Rattle.zio_audit.specs.declared.plain_matcher.PlainMatcher.{PlainMatcher}
@@ -293,3 +294,26 @@ others_differ some others image byte first same = first.other (ap (λ (is : Leav
 pub seen_line : (script : Script) (report : List ℕ) (journals : List RoundJournal) (plain : PlainMatcher) (j : Journal) (left after : Leaves) (line : ℕ) → IsLineOrNext report line
     → IsSeenOf script report journals plain j left after (Text line)
 seen_line script report journals plain j left after line is = λ c same_report same_after read ended. subst (λ (r : List ℕ). IsLineOrNext r line) (sym same_report) is
+
+-- ---- before the images after are looked at
+
+module _ (script : Script) (text report : List ℕ) (before : Leaves) (journals : List RoundJournal) (plain : PlainMatcher) (j : Journal) (left : Leaves) where
+  -- the case with these images after
+  abbrev pub with_after : Leaves → Case
+  with_after after = record { script = text; report = report; before = before; after = after }
+
+  module _ (read : (after : Leaves) → IsReadAs (with_after after) script journals) (ended : (after : Leaves) → HasEnded (with_after after) script journals plain j left) where
+    pub told_some : (seen : Seen) → IsToldOf script report journals plain j (Some seen) → (after : Leaves) → IsVerdict (with_after after) (verdict_of (Some seen)) × IsSeenIn (with_after after) seen
+    told_some seen told after =
+        let of = told left after in
+        (of.0 (with_after after) refl refl (read after) (ended after), of.1 (with_after after) refl refl (read after) (ended after))
+
+    pub told_none : IsToldOf script report journals plain j None → (after : Leaves) → AreJudgedBy (with_after after) left
+    told_none told after =
+        let of = told left after in
+        record {
+          same = λ held. of.0 held (with_after after) refl refl (read after) (ended after);
+          other = λ image byte first.
+              (let wrong = of.1 image byte first in
+              (wrong.0 (with_after after) refl refl (read after) (ended after), wrong.1 (with_after after) refl refl (read after) (ended after)));
+        }

@@ -1,5 +1,5 @@
 -- A run by the entries that a report spells, from its start to its end, and what is said of it.
-use Rattle.std.specs.Prelude.{◌≡◌, ℕ, List, Bool, false, length, map}
+use Rattle.std.specs.Prelude.{◌≡◌, ℕ, List, Bool, false, length, map, Option, None, Some}
 use Rattle.std.specs.List.{AllByRecursion}
 use Rattle.zio_types.specs.declared.journal.Journal.{Journal}
 use Rattle.zio_outside.specs.declared.mem_disk.MemDisk.{MemDisk}
@@ -14,12 +14,14 @@ use Rattle.zio_report.specs.Meanings.{IsWholeRun, run_size_of, tops_of}
 use Rattle.zio_spelled.specs.declared.rounds.RoundJournal.{RoundJournal}
 use Rattle.zio_course.specs.Course.{AreOfRounds}
 use Rattle.zio_audit.specs.declared.seen.Seen.{Seen}
+use Rattle.zio_audit.specs.declared.seen.Seen.TheVariants.{Images as SeenImages}
 use Rattle.zio_audit.specs.declared.plain_matcher.PlainMatcher.{PlainMatcher}
 use Rattle.zio_audit.specs.declared.verdict.Verdict.{Verdict}
+use Rattle.zio_audit.specs.declared.verdict.Verdict.TheVariants.{Yes}
 use Rattle.zio_audit.specs.Audits.{sizes_in}
 use Rattle.zio_audit.specs.PlainMatching.{HoldsCompared, compared}
 use Rattle.zio_audit.specs.Replays.{AreSpelledIn}
-use Rattle.zio_audit.specs.Seen.{IsSeenIn}
+use Rattle.zio_audit.specs.Seen.{IsFirstOther, IsSeenIn, verdict_of}
 use Rattle.zio_audit.specs.Texts.{plain_text, shows_bytes}
 use Rattle.zio_audit.specs.Verdicts.{Case, IsReadAs, IsVerdict}
 
@@ -59,3 +61,15 @@ abbrev pub IsSeenOf : Script → List ℕ → List RoundJournal → PlainMatcher
 IsSeenOf script report journals plain j left after seen =
     (c : Case) → c.report ≡ report → c.after ≡ after → IsReadAs c script journals → HasEnded c script journals plain j left
     → IsSeenIn c seen
+
+-- What is said of such a run before the images after are looked at: no, for a reason that was seen there; or, where none
+-- was, yes where they are those that it left, and else no, seen where the first byte is another.
+abbrev pub IsToldOf : Script → List ℕ → List RoundJournal → PlainMatcher → Journal → Option Seen → Type 0
+IsToldOf script report journals plain j (Some seen) = (left after : Images) →
+    IsJudged script report journals plain j left after (verdict_of (Some seen))
+    × IsSeenOf script report journals plain j left after seen
+IsToldOf script report journals plain j None = (left after : Images) →
+    (after ≡ left → IsJudged script report journals plain j left after Yes)
+    × ((image byte : ℕ) → IsFirstOther after left image byte
+    → IsJudged script report journals plain j left after (verdict_of (Some (SeenImages image byte)))
+    × IsSeenOf script report journals plain j left after (SeenImages image byte))

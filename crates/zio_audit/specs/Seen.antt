@@ -1,6 +1,7 @@
 -- Where an audit sees the first reason to say no.
-use Rattle.std.specs.Prelude.{◌≡◌, ◌≢◌, ◌≤◌, ◌<◌, ◌+◌, ℕ, List, length, take, false, Option, None, Some, option_map, slice_get}
+use Rattle.std.specs.Prelude.{◌≡◌, ◌≢◌, ◌≤◌, ◌<◌, ◌+◌, ℕ, List, length, map, take, false, Option, None, Some, option_map, slice_get}
 use Rattle.std.specs.List.{AllByRecursion, list_any, slice_split}
+use Rattle.zio_outside.specs.Memory.{disk_image}
 use Rattle.zio_script.specs.declared.script.Script.{Script as ScriptRead}
 use Rattle.zio_script.specs.declared.script.ScriptFault.{ScriptFault}
 use Rattle.zio_script.specs.Grammar.{IsFaultOf, IsScriptOf}
@@ -9,13 +10,15 @@ use Rattle.zio_cksum.specs.Images.{Images as Leaves}
 use Rattle.zio_report.specs.Meanings.{course_of}
 use Rattle.zio_spelled.specs.Spelled.{first_of, is_journal, is_round}
 use Rattle.zio_command.specs.Tops.{IsFirstMissing, leaves_of}
+use Rattle.zio_audit.specs.declared.seen.Judged.{Judged}
+use Rattle.zio_audit.specs.declared.seen.Judged.TheVariants.{No as OfReason, Leaves as OfDisks}
 use Rattle.zio_audit.specs.declared.seen.Seen.{Seen}
 use Rattle.zio_audit.specs.declared.seen.Seen.TheVariants.{Script, Leaf, Lines, Places, Completions, Text, Images}
 use Rattle.zio_audit.specs.declared.verdict.Verdict.{Verdict}
 use Rattle.zio_audit.specs.declared.verdict.Verdict.TheVariants.{Yes, No}
 use Rattle.zio_audit.specs.declared.verdict.Why.{Why}
 use Rattle.zio_audit.specs.declared.verdict.Why.TheVariants.{Script as OfScript, Lines as OfLines, Places as OfPlaces, Completions as OfCompletions, Text as OfText, Images as OfImages}
-use Rattle.zio_audit.specs.Verdicts.{Case, IsShaped, OfRun, why_number}
+use Rattle.zio_audit.specs.Verdicts.{Case, IsShaped, IsVerdict, OfRun, why_number}
 
 -- ---- the reason
 
@@ -81,3 +84,16 @@ IsSeenIn c (Places round) = 1 ≤ round
 IsSeenIn c (Completions round) = Unit {0}
 IsSeenIn c (Text line) = IsLineOrNext c.report line
 IsSeenIn c (Images image byte) = OfRun c (λ script images j. IsFirstOther c.after (course_of script images j).state.images image byte)
+
+-- ---- before the images after are looked at
+
+-- the images after decide: yes where they are these, else no, seen where the first byte is another
+pub record AreJudgedBy (c : Case) (left : Leaves) : Type 0 where
+  pub same : c.after ≡ left → IsVerdict c Yes
+  pub other : (image byte : ℕ) → IsFirstOther c.after left image byte
+      → IsVerdict c (verdict_of (Some (Images image byte))) × IsSeenIn c (Images image byte)
+
+-- what is said of the case so far: no, for a reason that is seen there, or what the images after decide
+abbrev pub IsJudgedAs : Case → Judged → Type 0
+IsJudgedAs c (OfReason seen) = IsVerdict c (verdict_of (Some seen)) × IsSeenIn c seen
+IsJudgedAs c (OfDisks disks) = AreJudgedBy c (map disk_image disks.items)

@@ -4,13 +4,14 @@ ghost use Rattle.std.specs.Prelude.{◌≡◌, ◌++◌, IfOk, IfSome, OnOk, map
 ghost use Rattle.std.specs.List.{AllByRecursion};
 ghost use Rattle.zio_script.specs.Grammar.{IsScriptOf};
 ghost use Rattle.zio_outside.specs.Memory.{IsSoundDisk, disk_image};
+ghost use Rattle.zio_cksum.specs.Images.{Images};
 ghost use Rattle.zio_gang.specs.Trees.{sizes_of};
 ghost use Rattle.zio_audit.specs.Audits.{AreNew, MayBeAudited};
-ghost use Rattle.zio_audit.specs.Seen.{IsSeenIn, verdict_of};
+ghost use Rattle.zio_audit.specs.Seen.{IsJudgedAs, IsSeenIn, verdict_of};
 ghost use Rattle.zio_audit.specs.Verdicts.{IsVerdict};
 
 use crate::run::judge_run;
-use crate::seen::{Seen, verdict_of};
+use crate::seen::{Judged, Seen, verdict_of};
 use crate::shapes::first_faulty;
 use crate::verdict::Verdict;
 use std::alloc::Global;
@@ -103,9 +104,33 @@ pub fn audit_seen(
       after = after.now;
     }))) }
 {
+    let judged = audit_rounds(alloc, script, report, before)?;
+    Ok(judged.seen_with(after))
+}
+
+/// What is to be said before the images after are looked at, so that they need not be held while the rounds are run.
+pub fn audit_rounds(
+    alloc: Global,
+    script: &[u8],
+    report: &[u8],
+    before: Vec<Bytes>,
+) -> Result<Judged, NoMemory>
+    requires { MayBeAudited (record {
+      script = script.now;
+      report = report.now;
+      before = before.items;
+      after = before.items;
+    }) }
+    ensures { IfOk result (λ judged. (after : Images) → IsJudgedAs (record {
+      script = script.now;
+      report = report.now;
+      before = before.items;
+      after = after;
+    }) judged) }
+{
     match read_script(alloc, script) {
-        Ok(read) => audit_script(alloc, script, &read, report, before, after),
-        Err(ScriptError::Fault(fault)) => Ok(Some(Seen::Script { line: fault.line })),
+        Ok(read) => audit_script(alloc, script, &read, report, before),
+        Err(ScriptError::Fault(fault)) => Ok(Judged::No(Seen::Script { line: fault.line })),
         Err(ScriptError::Memory) => Err(NoMemory),
     }
 }
@@ -117,37 +142,30 @@ fn audit_script(
     script: &Script,
     report: &[u8],
     before: Vec<Bytes>,
-    after: &[Bytes],
-) -> Result<Option<Seen>, NoMemory>
+) -> Result<Judged, NoMemory>
     requires may { MayBeAudited (record {
       script = text.now;
       report = report.now;
       before = before.items;
-      after = after.now;
+      after = before.items;
     }) }
     requires script { IsScriptOf text.now script.now }
-    ensures verdict { IfOk result (λ seen. IsVerdict (record {
+    ensures { IfOk result (λ judged. (after : Images) → IsJudgedAs (record {
       script = text.now;
       report = report.now;
       before = before.items;
-      after = after.now;
-    }) (verdict_of seen)) }
-    ensures place { IfOk result (λ seen. IfSome seen (IsSeenIn (record {
-      script = text.now;
-      report = report.now;
-      before = before.items;
-      after = after.now;
-    }))) }
+      after = after;
+    }) judged) }
 {
     let disks = disks_of(alloc, before)?;
     let (setting, tops) = match pool_over(alloc, script, disks.as_slice()) {
         Ok(pool) => pool,
-        Err(TopsFault::Leaf(leaf)) => return Ok(Some(Seen::Leaf { leaf })),
+        Err(TopsFault::Leaf(leaf)) => return Ok(Judged::No(Seen::Leaf { leaf })),
         Err(TopsFault::Memory) => return Err(NoMemory),
     };
     let sizes = sizes_of(alloc, tops.as_slice())?;
     match first_faulty(alloc, report)? {
-        Some(line) => Ok(Some(Seen::Lines { line })),
+        Some(line) => Ok(Judged::No(Seen::Lines { line })),
         None => judge_run::<Brand>(
             alloc,
             text,
@@ -156,7 +174,6 @@ fn audit_script(
             setting,
             sizes.as_slice(),
             disks,
-            after,
         ),
     }
 }

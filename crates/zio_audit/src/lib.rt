@@ -1,7 +1,8 @@
 //! The audit of a finished run: what its answer means, and the answer.
 //!
 //! Read `audit` first, and `specs/Verdicts`, which says when it answers yes, and when no and with which reason;
-//! `specs/Worked` has cases. `audit_seen` tells too where the reason was first seen, and `specs/Seen` what that says.
+//! `specs/Worked` has cases. `audit_seen` tells too where the reason was first seen, and `specs/Seen` what that says;
+//! `audit_rounds` tells so of the run, and leaves its images to be compared with those after.
 //! `texts_show_their_journals` has the law that yes is the answer exactly of a headline. The crate stands on the
 //! definitions of `zio_gang` and `zio_report`, on `zio_spelled`, which reads the journal that a report spells, and on
 //! the space, the choosers and the depth-first runner of `zio_places`, `zio_blocks` and `zio_plain`; on no engine.
@@ -38,7 +39,7 @@ mod so_far;
 mod taking;
 mod verdict;
 
-pub use auditing::{AUDITED_LEN_MAX, audit, audit_over, audit_seen};
+pub use auditing::{AUDITED_LEN_MAX, audit, audit_over, audit_rounds, audit_seen};
 pub use cases::{the_first_reason_is_told, true_reports_are_yes};
 pub use completions::unmatched_round;
 pub use journals::Journals;
@@ -52,5 +53,5 @@ pub use plain_matcher::PlainMatcher;
 pub use putting::{PutIn, journal_text};
 pub use replay::{AsSpelled, replay_over};
 pub use replayed::{Replayed, Spelled};
-pub use seen::{Seen, verdict_of};
+pub use seen::{Judged, Seen, verdict_of};
 pub use verdict::{Verdict, Why};

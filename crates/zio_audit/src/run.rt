@@ -1,13 +1,14 @@
 //! Whether a run is what its report says: the rounds of the script are run by the entries that the report spells, and
-//! what comes of it is compared with the report and the images after.
+//! what comes of it is compared with the report.
 
-ghost use Rattle.std.specs.Prelude.{◌≡◌, ◌≤◌, ◌↔◌, [], IfOk, IfSome, IsErrOf, List as Seq, MatchOption, drop, length, map, true, ℕ};
+ghost use Rattle.std.specs.Prelude.{◌≡◌, ◌≤◌, ◌↔◌, [], IfOk, IsErrOf, List as Seq, MatchOption, drop, length, map, true, ℕ};
 ghost use Rattle.std.specs.List.{AllByRecursion, list_all};
 ghost use Rattle.zio_types.specs.Places.{is_lawful_top};
 ghost use Rattle.zio_outside.specs.Memory.{disk_image};
 ghost use Rattle.zio_script.specs.Accepted.{AreRising};
 ghost use Rattle.zio_script.specs.Grammar.{IsScriptOf};
 ghost use Rattle.zio_script.specs.Requests.{requests_of};
+ghost use Rattle.zio_cksum.specs.Images.{Images};
 ghost use Rattle.zio_gang.specs.Trees.{sizes_of};
 ghost use Rattle.zio_report.specs.Meanings.{IsEmptyJournal};
 ghost use Rattle.zio_spelled.specs.Rounds.{IsSpelled};
@@ -15,20 +16,19 @@ ghost use Rattle.zio_spelled.specs.declared.count.TheConstants.{REPORT_LEN_MAX};
 ghost use Rattle.zio_spelled.specs.declared.rounds.RoundJournal.{RoundJournal as SeenJournal};
 ghost use Rattle.zio_command.specs.Grounds.{IsSettingOf};
 ghost use Rattle.zio_audit.specs.Audits.{AreNew, sizes_in};
-ghost use Rattle.zio_audit.specs.Ended.{HasReplayed, IsAtStart, IsJudged, IsSeenOf};
+ghost use Rattle.zio_audit.specs.Ended.{HasReplayed, IsAtStart, IsToldOf};
 ghost use Rattle.zio_audit.specs.Putting.{IsPutIn, IsText, rest_of};
-ghost use Rattle.zio_audit.specs.Seen.{IsLineOrNext, IsSeenIn, verdict_of};
-ghost use Rattle.zio_audit.specs.Verdicts.{Case, HasLawfulEntries, IsReadAs, IsVerdict, journal_spelled};
+ghost use Rattle.zio_audit.specs.Seen.{IsJudgedAs, IsLineOrNext};
+ghost use Rattle.zio_audit.specs.Verdicts.{Case, HasLawfulEntries, IsReadAs, journal_spelled};
 
 use crate::completions::unmatched_round;
-use crate::differing::first_other;
 use crate::journals::Journals;
 use crate::plain_lines::shows_bytes;
 use crate::plain_matcher::PlainMatcher;
 use crate::putting::{PutIn, journal_text};
 use crate::replay::{AsSpelled, replay_over};
 use crate::replayed::{Replayed, Spelled};
-use crate::seen::Seen;
+use crate::seen::{Judged, Seen};
 use crate::shapes::line_before;
 use crate::so_far::SpelledSoFar;
 use std::alloc::Global;
@@ -39,10 +39,10 @@ use zio_plain::{EntriesFault, Plain};
 use zio_report::{RunFault, Show};
 use zio_script::{Script, accepted_scripts_are_orderly};
 use zio_suspend::run_script;
-use zio_types::{Bytes, List, NoMemory, TopSize};
+use zio_types::{List, NoMemory, TopSize};
 
-/// What is to be said of a run whose script is read, and whose report spells a journal: `text` is the script's, and the
-/// disks have the images before the run.
+/// What is to be said of a run whose script is read, and whose report spells a journal, before the images after it are
+/// looked at: `text` is the script's, and the disks have the images before the run.
 pub(crate) fn judge_run<K: Spelled>(
     alloc: Global,
     text: &[u8],
@@ -51,8 +51,7 @@ pub(crate) fn judge_run<K: Spelled>(
     setting: Setting,
     sizes: &[TopSize],
     disks: Vec<MemDisk>,
-    after: &[Bytes],
-) -> Result<Option<Seen>, NoMemory>
+) -> Result<Judged, NoMemory>
     requires script { IsScriptOf text.now script.now }
     requires new { AreNew disks.items (map disk_image disks.items) }
     requires few { length disks.items ≤ 16 }
@@ -60,18 +59,12 @@ pub(crate) fn judge_run<K: Spelled>(
     requires sizes { sizes.now ≡ sizes_of setting.tops }
     requires short { length report.now ≤ REPORT_LEN_MAX }
     requires spelled { IsSpelled sizes.now report.now K.journals }
-    ensures verdict { IfOk result (λ seen. IsVerdict (record {
+    ensures { IfOk result (λ judged. (after : Images) → IsJudgedAs (record {
       script = text.now;
       report = report.now;
       before = map disk_image disks.items;
-      after = after.now;
-    }) (verdict_of seen)) }
-    ensures place { IfOk result (λ seen. IfSome seen (IsSeenIn (record {
-      script = text.now;
-      report = report.now;
-      before = map disk_image disks.items;
-      after = after.now;
-    }))) }
+      after = after;
+    }) judged) }
 {
     accepted_scripts_are_orderly();
     let images = disks.len() as u32;
@@ -92,10 +85,11 @@ pub(crate) fn judge_run<K: Spelled>(
         &mut plain,
         &mut journal,
     ) {
-        Ok(disks) => judge_ended(
-            alloc, script, report, journals, &plain, &journal, &disks, after,
-        ),
-        Err(EntriesFault::Strange) => Ok(Some(Seen::Places {
+        Ok(disks) => match judge_ended(alloc, script, report, journals, &plain, &journal)? {
+            Some(seen) => Ok(Judged::No(seen)),
+            None => Ok(Judged::Leaves(disks)),
+        },
+        Err(EntriesFault::Strange) => Ok(Judged::No(Seen::Places {
             round: round_after(journal.rounds()),
         })),
         Err(EntriesFault::Memory) => Err(NoMemory),
@@ -140,7 +134,8 @@ fn run_spelled<K: Spelled>(
     }
 }
 
-// What is to be said of a run to its end, which left this of the matcher of its text, this journal and these disks.
+// What is to be said of a run to its end, which left this of the matcher of its text and this journal, before the images
+// after it are looked at.
 fn judge_ended<K: Spelled>(
     alloc: Global,
     script: &Script,
@@ -148,14 +143,9 @@ fn judge_ended<K: Spelled>(
     journals: Journals<'_>,
     plain: &PlainMatcher,
     journal: &SpelledSoFar<K>,
-    disks: &[MemDisk],
-    after: &[Bytes],
 ) -> Result<Option<Seen>, NoMemory>
     requires rising { AreRising (requests_of script.now.items) }
-    ensures verdict { IfOk result (λ seen. IsJudged script.now report.now journals.entry plain.now journal.now.journal
-        (map disk_image disks.now) after.now (verdict_of seen)) }
-    ensures place { IfOk result (λ seen. IfSome seen (IsSeenOf script.now report.now journals.entry plain.now
-        journal.now.journal (map disk_image disks.now) after.now)) }
+    ensures { IfOk result (IsToldOf script.now report.now journals.entry plain.now journal.now.journal) }
 {
     match round_behind(alloc, journals.again(), journal.rounds())? {
         Some(round) => return Ok(Some(Seen::Places { round })),
@@ -177,10 +167,7 @@ fn judge_ended<K: Spelled>(
     if !put.is_whole() {
         return Ok(Some(text_seen(report, put.left())));
     }
-    match first_other(disks, after) {
-        Some((image, byte)) => Ok(Some(Seen::Images { image, byte })),
-        None => Ok(None),
-    }
+    Ok(None)
 }
 
 // The line of the report behind which so many bytes follow, or fewer, isn't that of the run.

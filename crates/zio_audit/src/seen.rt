@@ -1,8 +1,12 @@
 //! Where a reason to say no was first seen.
-ghost use Rattle.std.specs.Prelude.{◌≡◌};
-ghost use Rattle.zio_audit.specs.Seen.{verdict_of, why_of};
+ghost use Rattle.std.specs.Prelude.{◌≡◌, IfSome};
+ghost use Rattle.zio_audit.specs.Seen.{IsJudgedAs, IsSeenIn, verdict_of, why_of};
+ghost use Rattle.zio_audit.specs.Verdicts.{Case, IsVerdict};
 
+use crate::differing::first_other;
 use crate::verdict::{Verdict, Why};
+use zio_outside::MemDisk;
+use zio_types::Bytes;
 
 /// A reason to say no, and where it was first seen. Lines are counted from 1, rounds by the run; images and bytes from 0.
 #[derive(Clone, Copy, Debug, PartialEq, Eq)]
@@ -24,6 +28,15 @@ pub enum Seen {
     Images { image: usize, byte: usize },
 }
 
+/// What is to be said of a run before the images after it are looked at.
+#[derive(Debug, Drop)]
+pub enum Judged {
+    /// No, and where the reason was first seen.
+    No(Seen),
+    /// Yes where the images after it are those of these disks, which it leaves; else no.
+    Leaves(Vec<MemDisk>),
+}
+
 impl Seen {
     /// The reason.
     pub fn why(self) -> Why
@@ -36,6 +49,22 @@ impl Seen {
             Seen::Completions { .. } => Why::Completions,
             Seen::Text { .. } => Why::Text,
             Seen::Images { .. } => Why::Images,
+        }
+    }
+}
+
+impl Judged {
+    /// Where the first reason to say no is seen once these are the images after; none is yes.
+    pub fn seen_with(&self, after: &[Bytes]) -> Option<Seen>
+        ensures { (c : Case) → c.after ≡ after.now → IsJudgedAs c self.now
+            → IsVerdict c (verdict_of result) × IfSome result (IsSeenIn c) }
+    {
+        match self {
+            Judged::No(seen) => Some(*seen),
+            Judged::Leaves(disks) => match first_other(disks, after) {
+                Some((image, byte)) => Some(Seen::Images { image, byte }),
+                None => None,
+            },
         }
     }
 }

@@ -1,17 +1,11 @@
 -- How an audit ends, by how it came out and how its line was taken.
-use Rattle.std.proofs.Common.{◌≡◌, ◌≢◌, ℕ, List, Option, inl, inr, sym, subst, ◌∙◌, arith}
-use Rattle.std.specs.Prelude.{IfSome}
-use Rattle.zio_audit.specs.declared.seen.Seen.{Seen}
+use Rattle.std.proofs.Common.{◌≡◌, ◌≢◌, ℕ, List, inl, inr, sym, ◌∙◌, arith}
 use Rattle.zio_audit.specs.declared.verdict.Verdict.{Verdict}
 use Rattle.zio_audit.specs.declared.verdict.Verdict.TheVariants.{Yes, No}
-use Rattle.zio_audit.specs.Audits.{MayBeAudited}
-use Rattle.zio_audit.specs.Seen.{IsSeenIn, verdict_of}
-use Rattle.zio_audit.specs.Verdicts.{Case, IsVerdict}
 use Rattle.zio_command.specs.Outcomes.{Ends}
 use Rattle.zio_command.specs.Seen.{ShelfSeen, SinkSeen}
-use Rattle.zio_audit_run.specs.Causes.{IsFileCause, WasJudged, WasSeen, WereRead}
+use Rattle.zio_audit_run.specs.Causes.{IsFileCause, WasJudged}
 use Rattle.zio_audit_run.specs.Codes.{AuditEnds, IsAuditCode, IsTold, WasWritten, files_line, verdict_code, verdict_line}
-use Rattle.zio_audit_run.specs.Files.{files_in}
 use Rattle.zio_audit_run.specs.Codes.AuditEnds.{Judged, Blamed, JudgedCut, BlamedCut, Stopped, Wanting}
 
 pub judged_ends : (names : List (List ℕ)) (old_sink new_sink : SinkSeen) (old new : ShelfSeen) (verdict : Verdict) (code : ℕ) → WasJudged names verdict old new
@@ -94,11 +88,3 @@ blamed_untold k code old new ends told = elim ends.codes_are [
   | inr (inl six) ↦ told_not code 6 told six (λ e. omega arith) (λ e. omega arith)
   | inr (inr eight) ↦ told_not code 8 told eight (λ e. omega arith) (λ e. omega arith)
 ]
-
--- files that were read, and what is to be said of them
-pub was_seen : (names files : List (List ℕ)) (seen : Option Seen) (old new : ShelfSeen) → WereRead names files old new
-    → (c : Case) × (files_in c ≡ files) × MayBeAudited c × IsVerdict c (verdict_of seen) × IfSome seen (IsSeenIn c) → WasSeen names seen old new
-was_seen names files seen old new read it = record {
-  judged = record { read = it.0; files = subst (λ (fs : List (List ℕ)). WereRead names fs old new) (sym it.1) read; may = it.2; is = it.3 };
-  place = it.4;
-}

@@ -1,11 +1,15 @@
 -- Files that were fetched from their shelf, were read, and came home.
-use Rattle.std.proofs.Common.{◌≡◌, ◌<◌, ℕ, Result, Ok, Err, List, [], ◌∷◌, length, map, refl, sym, ◌∙◌, subst}
+use Rattle.std.proofs.Common.{◌≡◌, ◌<◌, ℕ, Option, Result, Ok, Err, List, [], ◌∷◌, length, map, inr, refl, sym, ◌∙◌, subst}
 use Rattle.std.proofs.lemmas.List.{length-map}
 use Rattle.std.specs.List.{AllByRecursion}
-use Rattle.std.specs.Prelude.{IfOk}
+use Rattle.std.specs.Prelude.{IfOk, IfSome, OnOk}
 use Rattle.zio_outside.specs.Outside.{AnyRose, Raised, Rose, StaysHome, count_max}
 use Rattle.zio_cksum.specs.Images.{Images}
 use Rattle.zio_disks.specs.Disks.{AreSameDisks, KeepHomes, Tell}
+use Rattle.zio_audit.specs.declared.seen.Seen.{Seen}
+use Rattle.zio_audit.specs.Audits.{MayBeAudited}
+use Rattle.zio_audit.specs.Seen.{IsSeenIn, verdict_of}
+use Rattle.zio_audit.specs.Verdicts.{Case, IsVerdict}
 use Rattle.zio_command.specs.Headline.{TellEach}
 use Rattle.zio_command.specs.Outcomes.{counted_times}
 use Rattle.zio_command.specs.Seen.{ShelfSeen}
@@ -15,10 +19,11 @@ use Rattle.zio_command.proofs.CountLemmas.{raised_rose}
 use Rattle.zio_command.proofs.ShelfLemmas.{AreOut-fetched, StaysHome-after_trips}
 use Rattle.zio_command.proofs.TripLemmas.{tell_each_one}
 use Rattle.zio_audit_run.specs.declared.files.AuditFault.{AuditFault}
-use Rattle.zio_audit_run.specs.declared.files.AuditFault.TheVariants.{Device}
+use Rattle.zio_audit_run.specs.declared.files.AuditFault.TheVariants.{File, Device, Memory}
 use Rattle.zio_audit_run.specs.Causes.{AreMeasured, WereRead}
-use Rattle.zio_audit_run.specs.Files.{AreFit, last_or}
-use Rattle.zio_audit_run.specs.Reads.{AreUnfailed, TellStill}
+use Rattle.zio_audit_run.specs.Codes.{CameOut}
+use Rattle.zio_audit_run.specs.Files.{AreFit, IsUnfit, files_in, last_or}
+use Rattle.zio_audit_run.specs.Reads.{AreBytesOf, AreUnfailed, TellStill}
 
 -- ---- what disks tell
 
@@ -123,20 +128,29 @@ trip_rose {faults = faults} {faults_at_fetch = faults_at_fetch} {disks = disks} 
 
 -- bytes of all of them were read
 pub trip_read : {D : Type 0} {bytes faults faults_at_fetch : D → ℕ} {home image : D → List ℕ → Type 0} {sound : D → Type 0} {names : List (List ℕ)} {disks read : List D} {old mid new : ShelfSeen}
-    → Trip bytes faults faults_at_fetch home image sound names disks read old mid new → (files : Images) → map (length {A = ℕ}) files ≡ map bytes disks
-    → ((images : Images) → Tell image disks images → files ≡ images) → AreFit (map (length {A = ℕ}) files) → map faults read ≡ map faults disks → WereRead names files old new
-trip_read {names = names} {old = old} {new = new} t files sizes told fit calm = record {
-  measured = subst (λ (ns : List ℕ). AreMeasured names ns old new) (sym sizes) (trip_measured t);
-  fit = fit;
+    → Trip bytes faults faults_at_fetch home image sound names disks read old mid new → (files : Images) → AreBytesOf bytes image disks files → AreFit (map bytes disks)
+    → map faults read ≡ map faults disks → WereRead names files old new
+trip_read {names = names} {old = old} {new = new} t files are fit calm = record {
+  measured = subst (λ (ns : List ℕ). AreMeasured names ns old new) (sym are.sizes) (trip_measured t);
+  fit = subst AreFit (sym are.sizes) fit;
   steady = trip_steady t calm;
-  told = λ tells. (let f = t.told tells in subst (λ (fs : Images). TellEach old.image names fs) (sym (told f.images f.told)) f.before);
+  told = λ tells. (let f = t.told tells in subst (λ (fs : Images). TellEach old.image names fs) (sym (are.told f.images f.told)) f.before);
 }
 
--- of an answer for which they were read
-pub read_ok : {D V : Type 0} {bytes faults faults_at_fetch : D → ℕ} {home image : D → List ℕ → Type 0} {sound : D → Type 0} {names : List (List ℕ)} {disks read : List D} {old mid new : ShelfSeen}
-    (items : V → Images) → Trip bytes faults faults_at_fetch home image sound names disks read old mid new → (answer : Result V AuditFault)
-    → IfOk answer (λ v. (images : Images) → Tell image disks images → items v ≡ images) → IfOk answer (λ v. map (length {A = ℕ}) (items v) ≡ map bytes disks)
-    → IfOk answer (λ v. AreFit (map (length {A = ℕ}) (items v))) → ((answer ≡ Err Device → ⊥) → map faults read ≡ map faults disks)
-    → IfOk answer (λ v. WereRead names (items v) old new)
-read_ok items t (Ok v) told sizes fit calm = trip_read t (items v) sizes told fit (calm (λ e. cc))
-read_ok items t (Err fault) told sizes fit calm = tt
+-- how the audit of files that were fetched, and are back, came out
+pub trip_came : {D : Type 0} {bytes faults faults_at_fetch : D → ℕ} {home image : D → List ℕ → Type 0} {sound : D → Type 0} {names : List (List ℕ)} {disks read : List D} {old mid new : ShelfSeen}
+    → Trip bytes faults faults_at_fetch home image sound names disks read old mid new → (answer : Result (Option Seen) AuditFault)
+    → IfOk answer (λ seen. (c : Case) × AreBytesOf bytes image disks (files_in c) × MayBeAudited c × IsVerdict c (verdict_of seen) × IfSome seen (IsSeenIn c))
+    → OnOk answer (AreFit (map bytes disks))
+    → ((k : ℕ) → answer ≡ Err (File k) → IsUnfit (map bytes disks) k)
+    → (answer ≡ Err Device → AreFit (map bytes disks) × AnyRose (map faults disks) (map faults read))
+    → ((answer ≡ Err Device → ⊥) → map faults read ≡ map faults disks)
+    → CameOut names old new answer
+trip_came t (Ok seen) it fit unfit stopped calm = record {
+  judged = record { read = it.0; files = trip_read t (files_in it.0) it.1 fit (calm (λ e. cc)); may = it.2; is = it.3 };
+  place = it.4;
+}
+trip_came {bytes = bytes} {disks = disks} t (Err (File k)) it fit unfit stopped calm = inr (record { sizes = map bytes disks; measured = trip_measured t; unfit = unfit k refl })
+trip_came {bytes = bytes} {disks = disks} t (Err Device) it fit unfit stopped calm =
+    record { sizes = map bytes disks; measured = trip_measured t; fit = (stopped refl).0; rose = trip_rose t (stopped refl).1 }
+trip_came t (Err Memory) it fit unfit stopped calm = tt

@@ -1,6 +1,6 @@
 -- The files of an audit by the numbers of their names, from 0: the script, the report, the images before the run, and as
 -- many after it. What sizes in bytes they may have.
-use Rattle.std.specs.Prelude.{◌≡◌, ◌<◌, ◌≤◌, ◌+◌, ◌-◌, ◌/◌, ◌⊎◌, ℕ, zero, suc, List, [], ◌∷◌, ◌++◌, length, map, slice_index_or}
+use Rattle.std.specs.Prelude.{◌≡◌, ◌<◌, ◌≤◌, ◌+◌, ◌-◌, ◌/◌, ◌⊎◌, ℕ, zero, suc, List, [], ◌∷◌, ◌++◌, drop, length, map, slice_index_or}
 use Rattle.zio_script.specs.declared.read.TheConstants.{SCRIPT_LEN_MAX}
 use Rattle.zio_spelled.specs.declared.count.TheConstants.{REPORT_LEN_MAX}
 use Rattle.zio_command.specs.Headline.{TellEach}
@@ -10,6 +10,15 @@ use Rattle.zio_audit.specs.Verdicts.{Case}
 -- the files of a case, in the order of their names
 abbrev pub files_in : Case → List (List ℕ)
 files_in c = c.script ∷ c.report ∷ (c.before ++ c.after)
+
+-- the case of the first of these files, with these images after
+abbrev pub case_of : List (List ℕ) → List (List ℕ) → Case
+case_of files after = record {
+  script = slice_index_or files 0 [];
+  report = slice_index_or files 1 [];
+  before = drop 2 files;
+  after = after;
+}
 
 -- a shelf that tells these images tells the files of the case under these names, and there are as many after as before
 pub record TellCase (image : List ℕ → List ℕ → Type 0) (names : List (List ℕ)) (c : Case) : Type 0 where

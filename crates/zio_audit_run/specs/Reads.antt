@@ -1,5 +1,5 @@
 -- What is read of disks, and what is fetched.
-use Rattle.std.specs.Prelude.{◌≡◌, ◌<◌, ℕ, List, map}
+use Rattle.std.specs.Prelude.{◌≡◌, ◌<◌, ℕ, List, length, map}
 use Rattle.std.specs.List.{AllByRecursion}
 use Rattle.zio_outside.specs.Outside.{count_max}
 use Rattle.zio_cksum.specs.Images.{Images}
@@ -13,3 +13,8 @@ pub record AreUnfailed {D : Type 0} (faults faults_at_fetch : D → ℕ) (disks 
 -- the disks tell the images that they told
 abbrev pub TellStill : {D : Type 0} → (D → List ℕ → Type 0) → List D → List D → Type 0
 TellStill image old new = (images : Images) → Tell image old images → Tell image new images
+
+-- the files have the sizes of these disks, and are what these tell
+pub record AreBytesOf {D : Type 0} (bytes : D → ℕ) (image : D → List ℕ → Type 0) (disks : List D) (files : Images) : Type 0 where
+  pub sizes : map length files ≡ map bytes disks
+  pub told : (images : Images) → Tell image disks images → files ≡ images

@@ -1,6 +1,6 @@
 //! The top call of the auditor.
 
-ghost use Rattle.std.specs.Prelude.{◌≡◌, ◌≢◌, ◌↔◌, ℕ, List as Seq, IfSome, IsErrOf, map, string_bytes};
+ghost use Rattle.std.specs.Prelude.{◌≡◌, ◌≢◌, ◌↔◌, ℕ, List as Seq, IfSome, map, string_bytes};
 ghost use Rattle.std.specs.List.{AllByRecursion};
 ghost use Rattle.zio_outside.specs.Outside.{Appends, Rose, StaysHome};
 ghost use Rattle.zio_audit.specs.Seen.{IsSeenIn, verdict_of};
@@ -8,12 +8,11 @@ ghost use Rattle.zio_audit.specs.Verdicts.{Case, IsVerdict};
 ghost use Rattle.zio_audit.specs.declared.verdict.Verdict.{Verdict as Answer};
 ghost use Rattle.zio_command.specs.Outcomes.{Ends, IsEachBack, words_line};
 ghost use Rattle.zio_command.specs.Seen.{shelf_by, sink_by};
-ghost use Rattle.zio_audit_run.specs.Codes.{AuditEnds, CameOut, IsAuditCode, IsDue, IsTold, verdict_code, verdict_line};
+ghost use Rattle.zio_audit_run.specs.Codes.{AuditEnds, IsAuditCode, IsDue, IsTold, verdict_code, verdict_line};
 ghost use Rattle.zio_audit_run.specs.Files.{TellCase};
 ghost use Rattle.zio_audit_run.specs.Words.{NameAudit};
 
-use crate::files::{AuditFault, read_named};
-use crate::judge::judge;
+use crate::files::{AuditFault, audit_named};
 use crate::lines::{blame, tell};
 use crate::words::name_audit;
 use std::alloc::Global;
@@ -160,33 +159,5 @@ where
         Err(AuditFault::File(k)) => blame(alloc, out, k),
         Err(AuditFault::Device) => Status { code: CODE_DEVICE },
         Err(AuditFault::Memory) => Status { code: CODE_MEMORY },
-    }
-}
-
-/// Where the first reason to say no is seen in the files of these names, which are back on the shelf then.
-fn audit_named<H: Shelf>(
-    alloc: Global,
-    words: &[String],
-    shelf: &mut H,
-) -> Result<Option<Seen>, AuditFault>
-where
-    H::Disk: Drop,
-    requires names { NameAudit (map string_bytes words.now) }
-    requires home { H.tells shelf.old → (name : Seq ℕ) → ¬ H.out shelf.old name }
-    ensures came { let saw = shelf_by H.tells H.image H.out H.faults H.disk_faults H.fetches H.returns H.last_size in
-        CameOut (map string_bytes words.now) (saw shelf.old) (saw shelf.new) result }
-    ensures calm { ¬ IsErrOf result AuditFault.Device → H.disk_faults shelf.new ≡ H.disk_faults shelf.old }
-    ensures back { IsEachBack (H.fetches shelf.old) (H.fetches shelf.new) (H.returns shelf.old) (H.returns shelf.new) }
-    ensures tells { H.tells shelf.old ↔ H.tells shelf.new }
-    ensures home { H.tells shelf.old →
-        StaysHome (H.image shelf.old) (H.image shelf.new) (H.out shelf.old) (H.out shelf.new) }
-    ensures sound { AllByRecursion (H.sound shelf.old) (map string_bytes words.now) →
-        (H.faults shelf.new ≡ H.faults shelf.old) × (H.disk_faults shelf.new ≡ H.disk_faults shelf.old)
-        × ((name : Seq ℕ) → H.sound shelf.old name → H.sound shelf.new name) }
-{
-    let files = read_named(alloc, words, shelf)?;
-    match judge(alloc, files) {
-        Ok(seen) => Ok(seen),
-        Err(_) => Err(AuditFault::Memory),
     }
 }

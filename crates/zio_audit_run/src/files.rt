@@ -1,25 +1,27 @@
-//! The files of an audit: fetched, measured, read and given back.
+//! The files of an audit: fetched, measured, judged and given back.
 
-ghost use Rattle.std.specs.Prelude.{◌≡◌, ◌↔◌, ℕ, List as Seq, IfOk, IsErrOf, length, map, string_bytes};
+ghost use Rattle.std.specs.Prelude.{◌≡◌, ◌↔◌, ℕ, List as Seq, IfOk, IfSome, IsErrOf, OnOk, length, map, string_bytes};
 ghost use Rattle.std.specs.List.{AllByRecursion};
 ghost use Rattle.zio_outside.specs.Outside.{StaysHome};
-ghost use Rattle.zio_cksum.specs.Images.{Images};
-ghost use Rattle.zio_disks.specs.Disks.{AnyRose, AreSameDisks, Tell};
+ghost use Rattle.zio_disks.specs.Disks.{AnyRose, AreSameDisks};
+ghost use Rattle.zio_audit.specs.Audits.{MayBeAudited};
+ghost use Rattle.zio_audit.specs.Seen.{IsSeenIn, verdict_of};
+ghost use Rattle.zio_audit.specs.Verdicts.{Case, IsVerdict};
 ghost use Rattle.zio_command.specs.Outcomes.{IsEachBack};
 ghost use Rattle.zio_command.specs.Seen.{shelf_by};
-ghost use Rattle.zio_command.specs.Words.{AreNames};
-ghost use Rattle.zio_audit_run.specs.Causes.{IsFileCause, WasStopped, WereRead};
-ghost use Rattle.zio_audit_run.specs.Files.{AreFit, IsUnfit};
-ghost use Rattle.zio_audit_run.specs.Reads.{TellStill};
+ghost use Rattle.zio_audit_run.specs.Codes.{CameOut};
+ghost use Rattle.zio_audit_run.specs.Files.{AreFit, IsUnfit, files_in};
+ghost use Rattle.zio_audit_run.specs.Reads.{AreBytesOf, TellStill};
+ghost use Rattle.zio_audit_run.specs.Words.{IsCount, NameAudit};
 
 use crate::fetch::{FilesFault, fetch_all};
-use crate::read::read_files;
+use crate::judge::judge;
 use crate::sizes::first_unfit;
 use std::alloc::Global;
+use zio_audit::Seen;
 use zio_command::{give_back_images, sizes_of_disks};
 use zio_disks::Stop;
 use zio_outside::{Disk, Shelf};
-use zio_types::Bytes;
 
 /// Why there is no verdict.
 #[derive(Clone, Copy, Debug, PartialEq, Eq)]
@@ -32,23 +34,19 @@ pub(crate) enum AuditFault {
     Memory,
 }
 
-/// Fetches the files of these names, measures and reads them, and gives them back, whatever the answer.
-pub(crate) fn read_named<H: Shelf>(
+/// Where the first reason to say no is seen in the files of these names, none where there is none. They are fetched,
+/// measured and read, and are back on the shelf then, whatever the answer.
+pub(crate) fn audit_named<H: Shelf>(
     alloc: Global,
     words: &[String],
     shelf: &mut H,
-) -> Result<Vec<Bytes>, AuditFault>
+) -> Result<Option<Seen>, AuditFault>
 where
     H::Disk: Drop,
-    requires names { AreNames (map string_bytes words.now) }
+    requires names { NameAudit (map string_bytes words.now) }
     requires home { H.tells shelf.old → (name : Seq ℕ) → ¬ H.out shelf.old name }
-    ensures read { let saw = shelf_by H.tells H.image H.out H.faults H.disk_faults H.fetches H.returns H.last_size in
-        IfOk result (λ files. WereRead (map string_bytes words.now) files.items (saw shelf.old) (saw shelf.new)) }
-    ensures file { let saw = shelf_by H.tells H.image H.out H.faults H.disk_faults H.fetches H.returns H.last_size in
-        (k : ℕ) → IsErrOf result (AuditFault.File k) →
-        IsFileCause (map string_bytes words.now) (saw shelf.old) (saw shelf.new) k }
-    ensures stopped { let saw = shelf_by H.tells H.image H.out H.faults H.disk_faults H.fetches H.returns H.last_size in
-        IsErrOf result AuditFault.Device → WasStopped (map string_bytes words.now) (saw shelf.old) (saw shelf.new) }
+    ensures came { let saw = shelf_by H.tells H.image H.out H.faults H.disk_faults H.fetches H.returns H.last_size in
+        CameOut (map string_bytes words.now) (saw shelf.old) (saw shelf.new) result }
     ensures calm { ¬ IsErrOf result AuditFault.Device → H.disk_faults shelf.new ≡ H.disk_faults shelf.old }
     ensures back { IsEachBack (H.fetches shelf.old) (H.fetches shelf.new) (H.returns shelf.old) (H.returns shelf.new) }
     ensures tells { H.tells shelf.old ↔ H.tells shelf.new }
@@ -61,20 +59,21 @@ where
     match fetch_all(alloc, words, shelf) {
         Ok(disks) => {
             let mut disks = disks;
-            let read = read_fit(alloc, &mut disks);
+            let seen = judge_fit(alloc, &mut disks);
             give_back_images(disks, shelf);
-            read
+            seen
         }
         Err(FilesFault::Failed(k)) => Err(AuditFault::File(k)),
         Err(FilesFault::Memory) => Err(AuditFault::Memory),
     }
 }
 
-/// The bytes of these disks, where their sizes are fit.
-fn read_fit<D: Disk>(alloc: Global, disks: &mut [D]) -> Result<Vec<Bytes>, AuditFault>
-    ensures told { IfOk result (λ files. (images : Images) → Tell D.image disks.old images → files.items ≡ images) }
-    ensures sizes { IfOk result (λ files. map length files.items ≡ map D.bytes disks.old) }
-    ensures fit { IfOk result (λ files. AreFit (map length files.items)) }
+/// Where that reason is seen in the files of these disks, where their sizes are fit.
+fn judge_fit<D: Disk>(alloc: Global, disks: &mut [D]) -> Result<Option<Seen>, AuditFault>
+    requires { IsCount (length disks.old) }
+    ensures seen { IfOk result (λ seen. (c : Case) × AreBytesOf D.bytes D.image disks.old (files_in c)
+        × MayBeAudited c × IsVerdict c (verdict_of seen) × IfSome seen (IsSeenIn c)) }
+    ensures fit { OnOk result (AreFit (map D.bytes disks.old)) }
     ensures unfit { (k : ℕ) → IsErrOf result (AuditFault.File k) → IsUnfit (map D.bytes disks.old) k }
     ensures stopped { IsErrOf result AuditFault.Device → AreFit (map D.bytes disks.old)
         × AnyRose (map D.faults disks.old) (map D.faults disks.new) }
@@ -89,8 +88,8 @@ fn read_fit<D: Disk>(alloc: Global, disks: &mut [D]) -> Result<Vec<Bytes>, Audit
     if let Some(k) = first_unfit(sizes.as_slice()) {
         return Err(AuditFault::File(k));
     }
-    match read_files(alloc, disks) {
-        Ok(files) => Ok(files),
+    match judge(alloc, disks) {
+        Ok(seen) => Ok(seen),
         Err(stop) => Err(fault_of(stop)),
     }
 }

@@ -1,18 +1,16 @@
-use Rattle.std.proofs.Common.{◌≡◌, List, Option, map, false, true, refl, sym, ap, ◌∙◌, subst}
-use Rattle.std.specs.Prelude.{IfSome}
+use Rattle.std.proofs.Common.{◌≡◌, List, map, false, true, refl, sym, ap, ◌∙◌, subst}
 use Rattle.std.specs.List.{list_all}
 use Rattle.zio_types.specs.declared.place.TopSize.{TopSize}
 use Rattle.zio_types.specs.Places.{is_lawful_top}
 use Rattle.zio_outside.specs.Memory.{disk_image}
+use Rattle.zio_cksum.specs.Images.{Images}
 use Rattle.zio_report.specs.declared.report.Show.TheVariants.{Report}
 use Rattle.zio_spelled.specs.declared.rounds.RoundJournal.{RoundJournal}
-use Rattle.zio_audit.specs.Ended.{HasEnded, HasReplayed, IsAtStart, IsJudged, IsSeenOf}
-use Rattle.zio_audit.specs.declared.seen.Seen.{Seen}
-use Rattle.zio_audit.specs.Seen.{IsSeenIn, verdict_of}
+use Rattle.zio_audit.specs.Ended.{HasEnded, HasReplayed, IsAtStart}
 use Rattle.zio_audit.specs.Texts.{shows_bytes}
-use Rattle.zio_audit.specs.Verdicts.{Case, IsReadAs, IsVerdict}
+use Rattle.zio_audit.specs.Verdicts.{Case, IsReadAs}
 use Rattle.zio_audit.proofs.AuditLemmas.{no_places}
-use Rattle.zio_audit.proofs.JudgedRuns.{at_start, ended_of, if_ok, if_some, lawful_tops, read_as}
+use Rattle.zio_audit.proofs.JudgedRuns.{at_start, ended_of, lawful_tops, read_as, told_none, told_some}
 use Rattle.zio_audit.proofs.run.judge_run.Goals as goal
 
 pub of-journals-requires-clause-lawful : goal.of-journals-requires-clause-lawful
@@ -36,52 +34,53 @@ run_spelled-requires-clause-start g c =
 pub run_spelled-requires-clause-live : goal.run_spelled-requires-clause-live
 run_spelled-requires-clause-live g c = ap (λ p. p.chooser.space.live) c.in_ok-runner.ensures
 
-pub returns-in-Ok-clause-verdict : goal.returns-in-Ok-clause-verdict
-returns-in-Ok-clause-verdict g c =
-    let case : Case = record { script = c.args.text.now; report = c.args.report.now; before = map disk_image c.args.disks.items; after = c.args.after.now } in
+pub returns-in-Some : goal.returns-in-Some
+returns-in-Some g c =
     let script = c.args.script.now in
+    let before = map disk_image c.args.disks.items in
     let journals : List RoundJournal = g.K.Spelled.journals in
-    let read : IsReadAs case script journals = read_as case script c.args.setting c.args.disks.items c.args.sizes.now journals c.requires.script refl c.requires.setting c.requires.sizes c.requires.spelled in
     let own : List RoundJournal = c.of-journals.result in
     let same : own ≡ journals = c.of-journals.ensures journals c.requires.spelled in
     let new = c.run_spelled.new.plain in
     let j = c.run_spelled.new.journal.journal in
     let left = map disk_image c.in-Ok.disks.items in
+    let case : Images → Case = λ after. record { script = c.args.text.now; report = c.args.report.now; before = before; after = after } in
+    let read : ((after : Images) → IsReadAs (case after) script own) =
+    (λ after. subst (IsReadAs (case after) script) (sym same)
+    (read_as (case after) script c.args.setting c.args.disks.items c.args.sizes.now journals c.requires.script refl c.requires.setting c.requires.sizes c.requires.spelled)) in
     let ran = subst (λ bytes. HasReplayed (Report false bytes) script journals (map disk_image c.in_ok-runner.runner.disks) left c.new-plain.result new j) c.shows_bytes.ensures c.in-Ok.ensures.ran in
-    let here = subst (λ ds. HasReplayed (Report false (shows_bytes case.report)) script journals (map disk_image ds) left c.new-plain.result new j) (ap (λ p. p.disks) c.in_ok-runner.ensures) ran in
-    let ended : HasEnded case script own new j (map disk_image c.deref.result.now) =
-    subst (λ (js : List RoundJournal). HasEnded case script js new j (map disk_image c.deref.result.now)) (sym same)
-    (subst (λ ds. HasEnded case script journals new j (map disk_image ds)) (sym c.deref.ensures.value) (ended_of case script journals left c.new-plain.result new j here c.new-plain.ensures)) in
-    let read_own : IsReadAs case script own = subst (IsReadAs case script) (sym same) read in
-    if_ok (λ (seen : Option Seen). IsJudged script c.args.report.now own new j (map disk_image c.deref.result.now) c.args.after.now (verdict_of seen)) (λ (seen : Option Seen). IsVerdict case (verdict_of seen))
-    c.judge_ended.result (λ seen judged. judged case refl refl read_own ended) c.judge_ended.ensures.verdict
+    let here = subst (λ ds. HasReplayed (Report false (shows_bytes c.args.report.now)) script journals (map disk_image ds) left c.new-plain.result new j) (ap (λ p. p.disks) c.in_ok-runner.ensures) ran in
+    let ended : ((after : Images) → HasEnded (case after) script own new j left) =
+    (λ after. subst (λ (js : List RoundJournal). HasEnded (case after) script js new j left) (sym same)
+    (ended_of (case after) script journals left c.new-plain.result new j here c.new-plain.ensures)) in
+    told_some script c.args.text.now c.args.report.now before own new j left read ended c.in-Some.seen (rw c.in-Some.is at c.in_ok-seen-in-Ok.ensures)
 
-pub returns-in-Ok-clause-place : goal.returns-in-Ok-clause-place
-returns-in-Ok-clause-place g c =
-    let case : Case = record { script = c.args.text.now; report = c.args.report.now; before = map disk_image c.args.disks.items; after = c.args.after.now } in
+pub returns-in-Ok : goal.returns-in-Ok
+returns-in-Ok g c =
     let script = c.args.script.now in
+    let before = map disk_image c.args.disks.items in
     let journals : List RoundJournal = g.K.Spelled.journals in
-    let read : IsReadAs case script journals = read_as case script c.args.setting c.args.disks.items c.args.sizes.now journals c.requires.script refl c.requires.setting c.requires.sizes c.requires.spelled in
     let own : List RoundJournal = c.of-journals.result in
     let same : own ≡ journals = c.of-journals.ensures journals c.requires.spelled in
     let new = c.run_spelled.new.plain in
     let j = c.run_spelled.new.journal.journal in
     let left = map disk_image c.in-Ok.disks.items in
+    let case : Images → Case = λ after. record { script = c.args.text.now; report = c.args.report.now; before = before; after = after } in
+    let read : ((after : Images) → IsReadAs (case after) script own) =
+    (λ after. subst (IsReadAs (case after) script) (sym same)
+    (read_as (case after) script c.args.setting c.args.disks.items c.args.sizes.now journals c.requires.script refl c.requires.setting c.requires.sizes c.requires.spelled)) in
     let ran = subst (λ bytes. HasReplayed (Report false bytes) script journals (map disk_image c.in_ok-runner.runner.disks) left c.new-plain.result new j) c.shows_bytes.ensures c.in-Ok.ensures.ran in
-    let here = subst (λ ds. HasReplayed (Report false (shows_bytes case.report)) script journals (map disk_image ds) left c.new-plain.result new j) (ap (λ p. p.disks) c.in_ok-runner.ensures) ran in
-    let ended : HasEnded case script own new j (map disk_image c.deref.result.now) =
-    subst (λ (js : List RoundJournal). HasEnded case script js new j (map disk_image c.deref.result.now)) (sym same)
-    (subst (λ ds. HasEnded case script journals new j (map disk_image ds)) (sym c.deref.ensures.value) (ended_of case script journals left c.new-plain.result new j here c.new-plain.ensures)) in
-    let read_own : IsReadAs case script own = subst (IsReadAs case script) (sym same) read in
-    if_ok (λ (seen : Option Seen). IfSome seen (IsSeenOf script c.args.report.now own new j (map disk_image c.deref.result.now) c.args.after.now)) (λ (seen : Option Seen). IfSome seen (IsSeenIn case))
-    c.judge_ended.result (λ seen place. if_some (IsSeenOf script c.args.report.now own new j (map disk_image c.deref.result.now) c.args.after.now) (IsSeenIn case) seen (λ s of. of case refl refl read_own ended) place)
-    c.judge_ended.ensures.place
+    let here = subst (λ ds. HasReplayed (Report false (shows_bytes c.args.report.now)) script journals (map disk_image ds) left c.new-plain.result new j) (ap (λ p. p.disks) c.in_ok-runner.ensures) ran in
+    let ended : ((after : Images) → HasEnded (case after) script own new j left) =
+    (λ after. subst (λ (js : List RoundJournal). HasEnded (case after) script js new j left) (sym same)
+    (ended_of (case after) script journals left c.new-plain.result new j here c.new-plain.ensures)) in
+    told_none script c.args.text.now c.args.report.now before own new j left read ended (rw c.in-None.is at c.in_ok-seen-in-Ok.ensures)
 
-pub returns-in-Err-Strange-clause-verdict : goal.returns-in-Err-Strange-clause-verdict
-returns-in-Err-Strange-clause-verdict g c =
-    let case : Case = record { script = c.args.text.now; report = c.args.report.now; before = map disk_image c.args.disks.items; after = c.args.after.now } in
+pub returns-in-Err-Strange : goal.returns-in-Err-Strange
+returns-in-Err-Strange g c after =
+    let case : Case = record { script = c.args.text.now; report = c.args.report.now; before = map disk_image c.args.disks.items; after = after } in
     let script = c.args.script.now in
     let journals : List RoundJournal = g.K.Spelled.journals in
     let read : IsReadAs case script journals = read_as case script c.args.setting c.args.disks.items c.args.sizes.now journals c.requires.script refl c.requires.setting c.requires.sizes c.requires.spelled in
     let strange = rw c.in-Err-Strange.field-0-is at c.in-Err-Strange.ensures.strange in
-    no_places case script journals read (strange refl case (ap (λ p. map disk_image p.disks) (sym c.in_ok-runner.ensures)) read)
+    (no_places case script journals read (strange refl case (ap (λ p. map disk_image p.disks) (sym c.in_ok-runner.ensures)) read), c.round_after.ensures)

@@ -1,5 +1,5 @@
 use Rattle.zio_disks.proofs.DiskLemmas.{same_itself}
-use Rattle.zio_audit_run.proofs.files.read_fit.Goals as goal
+use Rattle.zio_audit_run.proofs.files.judge_fit.Goals as goal
 
 pub returns-in-Err-clause-same : goal.returns-in-Err-clause-same
 returns-in-Err-clause-same g c =

@@ -1,4 +1,4 @@
-use Rattle.std.proofs.Common.{◌≡◌, ◌<◌, ◌++◌, ℕ, inr, length, map, string_bytes, take, drop, sym, ap, ◌∙◌, subst}
+use Rattle.std.proofs.Common.{◌≡◌, ◌<◌, ◌++◌, ℕ, length, map, string_bytes, take, drop, sym, ap, ◌∙◌, subst}
 use Rattle.std.proofs.lemmas.List.{length-map}
 use Rattle.std.specs.List.{AllByRecursion}
 use Rattle.zio_cksum.proofs.AllLemmas.{all_true}
@@ -9,10 +9,18 @@ use Rattle.zio_command.specs.Shelves.{AreFetched, AreOut}
 use Rattle.zio_command.proofs.TripLemmas.{stay_sound}
 use Rattle.zio_audit_run.specs.Files.{last_or}
 use Rattle.zio_audit_run.specs.Reads.{AreUnfailed}
+use Rattle.zio_audit_run.specs.Words.{IsCount}
 use Rattle.zio_audit_run.proofs.ReadLemmas.{front_all}
-use Rattle.zio_audit_run.proofs.TripLemmas.{Trip, files_out, read_ok, trip_measured, trip_rose, trip_stays, trip_steady}
-use Rattle.zio_audit_run.proofs.files.read_named.Given as given
-use Rattle.zio_audit_run.proofs.files.read_named.Goals as goal
+use Rattle.zio_audit_run.proofs.TripLemmas.{Trip, files_out, trip_came, trip_stays, trip_steady}
+use Rattle.zio_audit_run.proofs.files.audit_named.Given as given
+use Rattle.zio_audit_run.proofs.files.audit_named.Goals as goal
+
+pub judge_fit-seen-requires : goal.judge_fit-seen-requires
+judge_fit-seen-requires g c =
+    let names = map string_bytes c.args.words.now in
+    let many : length c.deref_mut.result.now ≡ length names =
+    ap length c.deref_mut.ensures.value ∙ (c.in-Ok.ensures.all ∙ sym (length-map c.args.words.now string_bytes)) in
+    subst IsCount (sym many) c.requires.names.count
 
 pub give_back_images-requires : goal.give_back_images-requires
 give_back_images-requires g c = record {
@@ -21,7 +29,7 @@ give_back_images-requires g c = record {
       let tells = c.in-Ok.ensures.tells.1 still in
       let disks = c.in-Ok.disks.items in
       let lent = c.deref_mut.result.now in
-      let read = c.read_fit-read.new.disks in
+      let read = c.judge_fit-seen.new.disks in
       let home = g.H.Disk.Disk.home in
       let image = g.H.Disk.Disk.image in
       let names = map string_bytes c.args.words.now in
@@ -32,9 +40,9 @@ give_back_images-requires g c = record {
       let fetched : AreFetched home image names lent old mid old_out mid_out =
       subst (λ ds. AreFetched home image names ds old mid old_out mid_out) (sym c.deref_mut.ensures.value) (c.in-Ok.ensures.told tells) in
       let are = files_out g.H.Disk.Disk.bytes g.H.Disk.Disk.faults g.H.Disk.Disk.faults_at_fetch home image g.H.Disk.Disk.sound names lent read old mid old_out mid_out
-      c.requires.names fetched c.read_fit-read.ensures.same c.read_fit-read.ensures.still in
+      c.requires.names.names fetched c.judge_fit-seen.ensures.same c.judge_fit-seen.ensures.still in
       let many : length read ≡ c.in-Ok.disks.len =
-      c.read_fit-read.auto.disks ∙ (ap length c.deref_mut.ensures.value ∙ sym c.in-Ok.disks.ok.0) in
+      c.judge_fit-seen.auto.disks ∙ (ap length c.deref_mut.ensures.value ∙ sym c.in-Ok.disks.ok.0) in
       let whole : take c.in-Ok.disks.len (read ++ drop (length read) disks) ≡ read = front_all c.in-Ok.disks.len read (drop (length read) disks) many in
       (names, fetched.images, subst (λ ds. AreOut home image mid_out names fetched.images ds) (sym whole) are));
 }
@@ -46,12 +54,12 @@ seen g shelf = shelf_by g.H.Shelf.tells g.H.Shelf.image g.H.Shelf.out g.H.Shelf.
 -- the files were fetched, read and given back
 trip_of : (g : given.Over) (c : goal.After-give_back_images g) →
     Trip g.H.Disk.Disk.bytes g.H.Disk.Disk.faults g.H.Disk.Disk.faults_at_fetch g.H.Disk.Disk.home g.H.Disk.Disk.image g.H.Disk.Disk.sound
-    (map string_bytes c.args.words.now) c.deref_mut.result.now c.read_fit-read.new.disks (seen g c.args.shelf.now) (seen g c.fetch_all.new.shelf) (seen g c.give_back_images.new.shelf)
+    (map string_bytes c.args.words.now) c.deref_mut.result.now c.judge_fit-seen.new.disks (seen g c.args.shelf.now) (seen g c.fetch_all.new.shelf) (seen g c.give_back_images.new.shelf)
 trip_of g c =
     let words = c.args.words.now in
     let names = map string_bytes words in
     let disks = c.in-Ok.disks.items in
-    let read = c.read_fit-read.new.disks in
+    let read = c.judge_fit-seen.new.disks in
     let is : disks ≡ c.deref_mut.result.now = sym c.deref_mut.ensures.value in
     let count : length names ≡ length words = length-map words string_bytes in
     let faults = g.H.Disk.Disk.faults in
@@ -63,14 +71,14 @@ trip_of g c =
     let old_out = g.H.Shelf.out c.args.shelf.now in
     let mid_out = g.H.Shelf.out c.fetch_all.new.shelf in
     let many : length read ≡ c.in-Ok.disks.len =
-    c.read_fit-read.auto.disks ∙ (ap length c.deref_mut.ensures.value ∙ sym c.in-Ok.disks.ok.0) in
+    c.judge_fit-seen.auto.disks ∙ (ap length c.deref_mut.ensures.value ∙ sym c.in-Ok.disks.ok.0) in
     let whole : take c.in-Ok.disks.len (read ++ drop (length read) disks) ≡ read = front_all c.in-Ok.disks.len read (drop (length read) disks) many in
     let before = g.H.Shelf.fetches c.args.shelf.now in
     let back = c.give_back_images.ensures in
     let mid_faults = g.H.Shelf.disk_faults c.fetch_all.new.shelf in
     let new_faults = g.H.Shelf.disk_faults c.give_back_images.new.shelf in
     record {
-      apart = c.requires.names;
+      apart = c.requires.names.names;
       at_home = λ tells. all_true (λ name. ¬ g.H.Shelf.out c.args.shelf.now name) names (c.requires.home tells);
       one_old = g.met.H.Shelf.one_image c.args.shelf.now;
       one_new = g.met.H.Shelf.one_image c.give_back_images.new.shelf;
@@ -83,8 +91,8 @@ trip_of g c =
       steady = c.in-Ok.ensures.steady;
       disks_steady = c.in-Ok.ensures.disk_faults;
       mid_tells = c.in-Ok.ensures.tells.0;
-      same = c.read_fit-read.ensures.same;
-      still = c.read_fit-read.ensures.still;
+      same = c.judge_fit-seen.ensures.same;
+      still = c.judge_fit-seen.ensures.still;
       back = λ tells known images are. back.home tells known images (subst (λ ds. AreOut home image mid_out known images ds) (sym whole) are);
       back_fetches = back.fetches;
       back_last = back.size;
@@ -94,31 +102,13 @@ trip_of g c =
       unrisen = subst (λ ds. map at_fetch ds ≡ map faults ds → new_faults ≡ mid_faults) whole back.same;
     }
 
-pub returns-in-Ok-clause-read : goal.returns-in-Ok-clause-read
-returns-in-Ok-clause-read g c =
-    let read = c.read_fit-read.ensures in
-    read_ok (λ files. files.items) (trip_of g c) c.read_fit-read.result read.told read.sizes read.fit read.calm
-
-pub returns-in-Ok-clause-file : goal.returns-in-Ok-clause-file
-returns-in-Ok-clause-file g c k err =
-    inr (record {
-      sizes = map g.H.Disk.Disk.bytes c.deref_mut.result.now;
-      measured = trip_measured (trip_of g c);
-      unfit = c.read_fit-read.ensures.unfit k err;
-    })
-
-pub returns-in-Ok-clause-stopped : goal.returns-in-Ok-clause-stopped
-returns-in-Ok-clause-stopped g c err =
-    let stopped = c.read_fit-read.ensures.stopped err in
-    record {
-      sizes = map g.H.Disk.Disk.bytes c.deref_mut.result.now;
-      measured = trip_measured (trip_of g c);
-      fit = stopped.0;
-      rose = trip_rose (trip_of g c) stopped.1;
-    }
+pub returns-in-Ok-clause-came : goal.returns-in-Ok-clause-came
+returns-in-Ok-clause-came g c =
+    let said = c.judge_fit-seen.ensures in
+    trip_came (trip_of g c) c.judge_fit-seen.result said.seen said.fit said.unfit said.stopped said.calm
 
 pub returns-in-Ok-clause-calm : goal.returns-in-Ok-clause-calm
-returns-in-Ok-clause-calm g c not = trip_steady (trip_of g c) (c.read_fit-read.ensures.calm not)
+returns-in-Ok-clause-calm g c not = trip_steady (trip_of g c) (c.judge_fit-seen.ensures.calm not)
 
 pub returns-in-Ok-clause-home : goal.returns-in-Ok-clause-home
 returns-in-Ok-clause-home g c tells = trip_stays (trip_of g c) tells
@@ -126,13 +116,13 @@ returns-in-Ok-clause-home g c tells = trip_stays (trip_of g c) tells
 pub returns-in-Ok-clause-sound : goal.returns-in-Ok-clause-sound
 returns-in-Ok-clause-sound g c all =
     let disks = c.in-Ok.disks.items in
-    let read = c.read_fit-read.new.disks in
+    let read = c.judge_fit-seen.new.disks in
     let sound = g.H.Disk.Disk.sound in
     let many : length read ≡ c.in-Ok.disks.len =
-    c.read_fit-read.auto.disks ∙ (ap length c.deref_mut.ensures.value ∙ sym c.in-Ok.disks.ok.0) in
+    c.judge_fit-seen.auto.disks ∙ (ap length c.deref_mut.ensures.value ∙ sym c.in-Ok.disks.ok.0) in
     let whole : take c.in-Ok.disks.len (read ++ drop (length read) disks) ≡ read = front_all c.in-Ok.disks.len read (drop (length read) disks) many in
     let s = c.in-Ok.ensures.sound all in
-    let stay = stay_sound sound g.H.Disk.Disk.faults c.deref_mut.result.now read c.read_fit-read.ensures.same.stay
+    let stay = stay_sound sound g.H.Disk.Disk.faults c.deref_mut.result.now read c.judge_fit-seen.ensures.same.stay
     (subst (λ ds. AllByRecursion sound ds) (sym c.deref_mut.ensures.value) s.2) in (
       c.give_back_images.ensures.faults ∙ s.0,
       trip_steady (trip_of g c) stay.1,

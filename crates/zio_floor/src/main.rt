@@ -2,10 +2,11 @@
 //! `zio_serial` on a script that asks for the same.
 //!
 //!     zio_floor SUM BYTES BLOCKS ROUNDS IMAGE ..
+//!     zio_floor scrub SUM BYTES BLOCKS IMAGE ..
 //!
 //! In each of so many rounds it makes so many blocks of so many bytes, sums each by SUM (off, fletcher4 or sha256) and
-//! writes it to every image; then it reads each from the first image and sums it by SUM, and by fletcher4, which a report
-//! shows of what is read.
+//! writes it to every image; then it reads each from the first image and sums it by SUM, and by fletcher4, which a
+//! report shows of what is read. With `scrub` it reads each block once from every image, and sums it by SUM.
 #![tactic(auto)]
 
 ghost use Rattle.std.specs.Prelude.{◌≡◌, ◌%◌};
@@ -17,13 +18,12 @@ use zio_blkptr::SumKind;
 use zio_cksum::{sum, verify};
 use zio_outside::{Disk, FileShelf, Shelf};
 
-/// What every round does.
+/// The blocks of a round, or of a scrub.
 #[derive(Clone, Copy)]
 struct Work {
     sum: SumKind,
     bytes: u32,
     blocks: u32,
-    rounds: u32,
 }
 
 fn main(rt: HostRuntime) -> Result<()> {
@@ -32,14 +32,14 @@ fn main(rt: HostRuntime) -> Result<()> {
     for word in env::args(&rt)? {
         words.push(word)?;
     }
-    let [_, sum, bytes, blocks, rounds, images @ ..] = words.as_slice() else {
-        bail!("words: SUM BYTES BLOCKS ROUNDS IMAGE ..");
+    let [_, first, second, third, fourth, images @ ..] = words.as_slice() else {
+        bail!("words: [scrub] SUM BYTES BLOCKS [ROUNDS] IMAGE ..");
     };
-    let work = Work {
-        sum: sum_named(sum.as_str())?,
-        bytes: bytes.parse().context("how many bytes")?,
-        blocks: blocks.parse().context("how many blocks")?,
-        rounds: rounds.parse().context("how many rounds")?,
+    let (work, rounds) = if first.as_str() == "scrub" {
+        (work_of(second, third, fourth)?, None)
+    } else {
+        let rounds: u32 = fourth.parse().context("how many rounds")?;
+        (work_of(first, second, third)?, Some(rounds))
     };
     if work.bytes % 4 != 0 {
         bail!("a block has whole words of four bytes");
@@ -52,11 +52,25 @@ fn main(rt: HostRuntime) -> Result<()> {
             Err(_) => bail!("an image can't be opened"),
         }
     }
-    for _ in 0..work.rounds {
-        run(alloc, work, disks.as_mut_slice())?;
+    if let Some(rounds) = rounds {
+        for _ in 0..rounds {
+            run(alloc, work, disks.as_mut_slice())?;
+        }
+    } else {
+        for disk in disks.iter_mut() {
+            scrub(alloc, work, disk)?;
+        }
     }
     println!(rt; "done")?;
     Ok(())
+}
+
+fn work_of(sum: &str, bytes: &str, blocks: &str) -> Result<Work> {
+    Ok(Work {
+        sum: sum_named(sum)?,
+        bytes: bytes.parse().context("how many bytes")?,
+        blocks: blocks.parse().context("how many blocks")?,
+    })
 }
 
 fn sum_named(word: &str) -> Result<SumKind> {
@@ -92,6 +106,21 @@ fn run<D: Disk>(alloc: Global, work: Work, disks: &mut [D]) -> Result<()>
         read(disk, at, &mut bytes)?;
         let words = sum(work.sum, &bytes);
         if !verify(SumKind::Fletcher4, &bytes, &words) && words[3] == 1 {
+            bail!("a sum that none of these blocks has");
+        }
+    }
+    Ok(())
+}
+
+/// All blocks are read from the disk, each into the same buffer.
+fn scrub<D: Disk>(alloc: Global, work: Work, disk: &mut D) -> Result<()>
+    requires { work.bytes % 4 ≡ 0 }
+{
+    let mut bytes = vec![in alloc; 0; work.bytes as usize]?;
+    for block in 0..work.blocks {
+        let at = u64::from(block) * u64::from(work.bytes);
+        read(disk, at, &mut bytes)?;
+        if sum(work.sum, &bytes)[3] == 1 {
             bail!("a sum that none of these blocks has");
         }
     }

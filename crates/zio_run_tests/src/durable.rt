@@ -34,15 +34,19 @@ struct Ran {
     journal: Journal,
 }
 
-/// A shelf with a disk of zeros, `a`. Its calls of these numbers fail, and those after so many.
-fn shelf_of(alloc: Global, fails: &[u64], calls: u32) -> Result<MemSyncShelf, Fail>
-    ensures { IfOk result (λ shelf. (name : List ℕ) → ¬ out_of (shelf_slot shelf) name) }
-{
-    let mut shelf = MemShelf::new(alloc, List::new(alloc));
+/// A disk of zeros. Its calls of these numbers fail, and those after so many.
+fn disk_of(alloc: Global, fails: &[u64], calls: u32) -> Result<MemSyncDisk, Fail> {
     let image = List::from_vec(vec![in alloc; 0; IMAGE_LEN]?);
     let mut failing = List::new(alloc);
     failing.extend_from_slice(fails)?;
-    let disk = MemSyncDisk::new(alloc, image, failing, calls)?;
+    Ok(MemSyncDisk::new(alloc, image, failing, calls)?)
+}
+
+/// A shelf with this disk, `a`.
+fn shelf_of(alloc: Global, disk: MemSyncDisk) -> Result<MemSyncShelf, Fail>
+    ensures { IfOk result (λ shelf. (name : List ℕ) → ¬ out_of (shelf_slot shelf) name) }
+{
+    let mut shelf = MemShelf::new(alloc, List::new(alloc));
     let name = Text::from_string(String::from_str(alloc, "a")?);
     match shelf.put(name, disk) {
         Ok(()) => Ok(shelf),
@@ -61,7 +65,7 @@ fn run(
     let words = words_of(alloc, words)?;
     let mut source = MemSource::new(bytes_of(alloc, script)?, List::new(alloc));
     let mut sink = MemSink::new(alloc, 16384, List::new(alloc))?;
-    let mut shelf = shelf_of(alloc, fails, calls)?;
+    let mut shelf = shelf_of(alloc, disk_of(alloc, fails, calls)?)?;
     let mut journal = Journal::new(alloc);
     let status = zio_durable_main(
         alloc,

@@ -1,14 +1,9 @@
 //! Tests of the top call over the objects in memory: reports and images that no clause spells out, what the order of
-//! the work changes and what it leaves, scrubs behind a run, each call of the outside that fails alone, and a disk that
-//! forgets.
+//! the work changes and what it leaves, scrubs behind a run, and a disk that forgets.
 //!
 //! They stand here, since a crate with tests of its own is proved once more with them. There is nothing else in it.
 #![tactic(auto)]
 
-#[cfg(test)]
-mod durable;
-#[cfg(test)]
-mod failing;
 #[cfg(test)]
 mod forgetful_shelf;
 #[cfg(test)]
@@ -17,7 +12,5 @@ mod mirrors;
 mod orders;
 #[cfg(test)]
 mod reports;
-#[cfg(test)]
-mod runs;
 #[cfg(test)]
 mod scrubs;

@@ -1,10 +1,10 @@
 //! Two writes on a mirror whose leaves fail in some way: whatever is picked, the report and the leaves are the same.
 
 use crate::orders::SEEDS;
-use crate::runs::{Case, Ran, run, run_with_picks};
 use std::alloc::Global;
 use std::process::Abort;
 use std::test::Fail;
+use zio_run_cases::{Case, Ran, run, run_with_picks};
 
 /// A table of faults, and what the writes of a sector 0x11 and one 0x22 come to.
 #[derive(Clone, Copy)]

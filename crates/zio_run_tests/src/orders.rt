@@ -1,10 +1,10 @@
 //! What the order of the work changes and what it does not: the order of completions, and how many calls of a disk a
 //! run makes.
 
-use crate::runs::{Case, Ran, run, run_with_picks};
 use std::alloc::Global;
 use std::process::Abort;
 use std::test::Fail;
+use zio_run_cases::{Case, Ran, run, run_with_picks};
 
 /// Claims the sectors 0 to 119 of 128, and then writes eight blocks of a sector in one batch.
 pub(crate) const EIGHT_WRITES: &str =

@@ -1,12 +1,12 @@
 //! Reports, refusals and images that no clause spells out.
 
 use crate::forgetful_shelf::ForgetfulShelf;
-use crate::runs::{Case, Ran, bytes_of, run, run_with_picks, words_of};
 use std::alloc::Global;
 use std::process::Abort;
 use std::test::Fail;
 use zio_outside::{MemSink, MemSource};
 use zio_run::zio_serial_main;
+use zio_run_cases::{Case, Ran, bytes_of, run, run_with_picks, words_of};
 use zio_types::{Journal, List};
 
 /// The shortest script over the smallest image.

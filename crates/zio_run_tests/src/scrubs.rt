@@ -1,10 +1,10 @@
 //! Scrubs behind a run: what they repair and what they lose, and how many calls of a disk they make.
 
 use crate::orders::{EIGHT_WRITES, SEEDS};
-use crate::runs::{Case, Ran, run, run_with_picks};
 use std::alloc::Global;
 use std::process::Abort;
 use std::test::Fail;
+use zio_run_cases::{Case, Ran, run, run_with_picks};
 
 /// A script, and what its run with a scrub behind it comes to.
 #[derive(Clone, Copy)]

@@ -1,9 +1,11 @@
 //! Each call of each object of the outside fails alone.
 
-use crate::runs::{Case, Failing, Object, Ran, run_failing};
 use std::alloc::Global;
 use std::process::Abort;
+use std::sync::Wait;
 use std::test::Fail;
+use std::thread::Threads;
+use zio_run_cases::{Case, Failing, Object, Ran, run_failing, run_failing_by_workers};
 
 /// More calls than any object gets in these runs.
 const CALLS_MAX: u64 = 400;
@@ -122,17 +124,33 @@ fn is_as_expected(known: &Known<'_>, object: Object, call: u64, ran: &Ran) -> bo
     }
 }
 
+/// Who runs a script.
+#[derive(Clone, Copy, Debug)]
+enum By {
+    OneThread,
+    Workers,
+}
+
 /// Lets each call of the object fail, one in each run, until a run meets none. It gives how many there were.
-fn each_call(
-    rt: &impl Abort,
+fn each_call<R: Abort + Threads + Wait + Sync>(
+    rt: &R,
     alloc: Global,
+    by: By,
     known: &Known<'_>,
     object: Object,
 ) -> Result<u64, Fail> {
     for call in 0..CALLS_MAX {
-        let ran = run_failing(alloc, &known.case, Failing { object, call })?;
+        let failing = Failing { object, call };
+        let ran = match by {
+            By::OneThread => run_failing(alloc, &known.case, failing)?,
+            By::Workers => run_failing_by_workers(rt, alloc, &known.case, failing)?,
+        };
         let is_right = is_home(known, &ran) && is_as_expected(known, object, call, &ran);
-        assert!(rt; is_right, "{object:?}, call {call}: code {}", ran.code);
+        assert!(rt;
+            is_right,
+            "{by:?}, {object:?}, call {call}: code {}",
+            ran.code
+        );
         if ran.code == 0 {
             return Ok(call);
         }
@@ -141,7 +159,12 @@ fn each_call(
 }
 
 /// Lets each call of each object fail, where each is called at least once.
-fn each_object(rt: &impl Abort, alloc: Global, known: &Known<'_>) -> Result<(), Fail> {
+fn each_object<R: Abort + Threads + Wait + Sync>(
+    rt: &R,
+    alloc: Global,
+    by: By,
+    known: &Known<'_>,
+) -> Result<(), Fail> {
     for object in [
         Object::Source,
         Object::Shelf,
@@ -151,7 +174,7 @@ fn each_object(rt: &impl Abort, alloc: Global, known: &Known<'_>) -> Result<(), 
     ] {
         let is_there = object != Object::SecondDisk || known.case.second_len > 0;
         assert_eq!(rt;
-            each_call(rt, alloc, known, object)? > 0,
+            each_call(rt, alloc, by, known, object)? > 0,
             is_there,
             "calls of {object:?}"
         );
@@ -162,10 +185,18 @@ fn each_object(rt: &impl Abort, alloc: Global, known: &Known<'_>) -> Result<(), 
 #[test]
 fn each_call_fails_alone(rt: HostRuntime) -> Result<(), Fail> {
     let alloc = rt.alloc();
-    each_object(&rt, alloc, &WRITE_THEN_READ)?;
-    each_object(&rt, alloc, &MENDED)?;
-    each_object(&rt, alloc, &RESUMED)?;
-    each_object(&rt, alloc, &SCRUBBED)
+    each_object(&rt, alloc, By::OneThread, &WRITE_THEN_READ)?;
+    each_object(&rt, alloc, By::OneThread, &MENDED)?;
+    each_object(&rt, alloc, By::OneThread, &RESUMED)?;
+    each_object(&rt, alloc, By::OneThread, &SCRUBBED)
+}
+
+#[test]
+fn each_call_of_workers_fails_alone(rt: HostRuntime) -> Result<(), Fail> {
+    let alloc = rt.alloc();
+    each_object(&rt, alloc, By::Workers, &WRITE_THEN_READ)?;
+    each_object(&rt, alloc, By::Workers, &MENDED)?;
+    each_object(&rt, alloc, By::Workers, &RESUMED)
 }
 
 /// What was run whole stays recorded, the entry and the completion of the write, and nothing else.

@@ -2,11 +2,14 @@
 
 ghost use Rattle.std.specs.Prelude.{◌≡◌, ◌≢◌, ℕ, List, None, IfOk, OnOk};
 ghost use Rattle.zio_outside.specs.MemoryShelf.{out_of, shelf_slot};
+ghost use Rattle.zio_report.specs.Meanings.{IsEmptyJournal};
 
 use std::alloc::Global;
+use std::sync::Wait;
 use std::test::Fail;
+use std::thread::Threads;
 use zio_outside::{MemDisk, MemShelf, MemSink, MemSource};
-use zio_run::zio_serial_main;
+use zio_run::{zio_main, zio_serial_main};
 use zio_types::{Journal, List, Text};
 
 /// The bytes that a sink takes.
@@ -14,7 +17,7 @@ const ROOM: u64 = 16384;
 
 /// An object of the outside.
 #[derive(Clone, Copy, Debug, PartialEq)]
-pub(crate) enum Object {
+pub enum Object {
     Source,
     Shelf,
     FirstDisk,
@@ -24,31 +27,31 @@ pub(crate) enum Object {
 
 /// The one call that fails, by its number from 0 among those of its object.
 #[derive(Clone, Copy)]
-pub(crate) struct Failing {
-    pub(crate) object: Object,
-    pub(crate) call: u64,
+pub struct Failing {
+    pub object: Object,
+    pub call: u64,
 }
 
 /// What is run.
 #[derive(Clone, Copy)]
-pub(crate) struct Case<'a> {
-    pub(crate) words: &'a [&'a str],
-    pub(crate) script: &'a [u8],
+pub struct Case<'a> {
+    pub words: &'a [&'a str],
+    pub script: &'a [u8],
     /// The bytes of the images `a` and, if it isn't 0, `b`.
-    pub(crate) first_len: usize,
-    pub(crate) second_len: usize,
+    pub first_len: usize,
+    pub second_len: usize,
 }
 
 /// What it came to.
 #[derive(Drop)]
-pub(crate) struct Ran {
-    pub(crate) code: u8,
-    pub(crate) sink: MemSink,
-    pub(crate) shelf: MemShelf,
-    pub(crate) journal: Journal,
+pub struct Ran {
+    pub code: u8,
+    pub sink: MemSink,
+    pub shelf: MemShelf,
+    pub journal: Journal,
 }
 
-pub(crate) fn bytes_of(alloc: Global, text: &[u8]) -> Result<List<u8>, Fail> {
+pub fn bytes_of(alloc: Global, text: &[u8]) -> Result<List<u8>, Fail> {
     let mut bytes = List::new(alloc);
     bytes.extend_from_slice(text)?;
     Ok(bytes)
@@ -65,7 +68,7 @@ fn fails_of(alloc: Global, object: Object, failing: Option<Failing>) -> Result<L
     Ok(calls)
 }
 
-pub(crate) fn words_of(alloc: Global, words: &[&str]) -> Result<Vec<String>, Fail> {
+pub fn words_of(alloc: Global, words: &[&str]) -> Result<Vec<String>, Fail> {
     let mut owned = Vec::new(alloc);
     for word in words {
         owned.push(String::from_str(alloc, word)?)?;
@@ -124,48 +127,103 @@ fn shelf_of(alloc: Global, case: &Case<'_>, failing: Option<Failing>) -> Result<
     Ok(shelf)
 }
 
-/// Runs the script of the case by these words. This is the one call of the program over disks that keep what they take.
+/// The objects of the outside that a run of the case gets.
+#[derive(Drop)]
+struct Outside {
+    source: MemSource,
+    sink: MemSink,
+    shelf: MemShelf,
+    journal: Journal,
+}
+
+impl Outside {
+    fn of(alloc: Global, case: &Case<'_>, failing: Option<Failing>) -> Result<Outside, Fail>
+        ensures empty { IfOk result (λ outside. IsEmptyJournal outside.journal) }
+        ensures home { IfOk result (λ outside. (name : List ℕ) → ¬ out_of (shelf_slot outside.shelf) name) }
+    {
+        let fails = fails_of(alloc, Object::Source, failing)?;
+        let source = MemSource::new(bytes_of(alloc, case.script)?, fails);
+        let sink = MemSink::new(alloc, ROOM, fails_of(alloc, Object::Sink, failing)?)?;
+        let shelf = shelf_of(alloc, case, failing)?;
+        Ok(Outside {
+            source,
+            sink,
+            shelf,
+            journal: Journal::new(alloc),
+        })
+    }
+
+    fn after(self, code: u8) -> Ran {
+        let Outside {
+            sink,
+            shelf,
+            journal,
+            ..
+        } = self;
+        Ran {
+            code,
+            sink,
+            shelf,
+            journal,
+        }
+    }
+}
+
+/// Runs the script of the case by these words. This is the one call of `zio_serial_main` over disks that keep what they
+/// take.
 fn run_words(
     alloc: Global,
     case: &Case<'_>,
     words: &[String],
     failing: Option<Failing>,
 ) -> Result<Ran, Fail> {
-    let fails = fails_of(alloc, Object::Source, failing)?;
-    let mut source = MemSource::new(bytes_of(alloc, case.script)?, fails);
-    let mut sink = MemSink::new(alloc, ROOM, fails_of(alloc, Object::Sink, failing)?)?;
-    let mut shelf = shelf_of(alloc, case, failing)?;
-    let mut journal = Journal::new(alloc);
+    let mut outside = Outside::of(alloc, case, failing)?;
     let status = zio_serial_main(
         alloc,
         words,
-        &mut source,
-        &mut shelf,
-        &mut sink,
-        &mut journal,
+        &mut outside.source,
+        &mut outside.shelf,
+        &mut outside.sink,
+        &mut outside.journal,
     );
-    Ok(Ran {
-        code: status.code,
-        sink,
-        shelf,
-        journal,
-    })
+    Ok(outside.after(status.code))
 }
 
 /// Runs the case as it stands.
-pub(crate) fn run(alloc: Global, case: &Case<'_>) -> Result<Ran, Fail> {
+pub fn run(alloc: Global, case: &Case<'_>) -> Result<Ran, Fail> {
     let words = words_of(alloc, case.words)?;
     run_words(alloc, case, words.as_slice(), None)
 }
 
 /// Runs the case by the picks of a seed.
-pub(crate) fn run_with_picks(alloc: Global, case: &Case<'_>, seed: u64) -> Result<Ran, Fail> {
+pub fn run_with_picks(alloc: Global, case: &Case<'_>, seed: u64) -> Result<Ran, Fail> {
     let words = words_with_picks(alloc, case.words, seed)?;
     run_words(alloc, case, words.as_slice(), None)
 }
 
 /// Runs the case while one call of the outside fails.
-pub(crate) fn run_failing(alloc: Global, case: &Case<'_>, failing: Failing) -> Result<Ran, Fail> {
+pub fn run_failing(alloc: Global, case: &Case<'_>, failing: Failing) -> Result<Ran, Fail> {
     let words = words_of(alloc, case.words)?;
     run_words(alloc, case, words.as_slice(), Some(failing))
+}
+
+/// Runs the case by workers while one call of the outside fails.
+pub fn run_failing_by_workers<R: Threads + Wait + Sync>(
+    rt: &R,
+    alloc: Global,
+    case: &Case<'_>,
+    failing: Failing,
+) -> Result<Ran, Fail> {
+    let words = words_of(alloc, case.words)?;
+    let mut outside = Outside::of(alloc, case, Some(failing))?;
+    let status = zio_main(
+        rt,
+        alloc,
+        words.as_slice(),
+        &mut outside.source,
+        &mut outside.shelf,
+        &mut outside.sink,
+        &mut outside.journal,
+    );
+    Ok(outside.after(status.code))
 }

@@ -3,12 +3,12 @@
 ghost use Rattle.std.specs.Prelude.{◌≡◌, ℕ, List, IfOk};
 ghost use Rattle.zio_outside.specs.MemoryShelf.{out_of, shelf_slot};
 
-use crate::runs::{bytes_of, words_of};
 use std::alloc::Global;
 use std::process::Abort;
 use std::test::Fail;
 use zio_outside::{MemShelf, MemSink, MemSource, MemSyncDisk, MemSyncShelf, Written};
 use zio_run::zio_durable_main;
+use zio_run_cases::{bytes_of, words_of};
 use zio_types::{Journal, List, Text};
 
 /// A block is written, and then read.

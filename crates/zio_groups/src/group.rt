@@ -15,6 +15,7 @@ use crate::waiting::{Answered, QueuedOp};
 use std::alloc::Global;
 use zio_disks::{Setting, Stop};
 use zio_outside::Disk;
+use zio_shared::Shared;
 use zio_types::List;
 use zio_vqueue::{Group, lone};
 
@@ -35,7 +36,7 @@ pub(crate) fn issue_group<D: Disk>(
     leaf: u32,
     group: &Group,
     members: &[QueuedOp],
-    buffer: &mut Vec<u8>,
+    buffer: &mut Shared,
 ) -> Result<List<Answered>, Stop>
     requires rows { AllByRecursion RowFits setting.now.rows }
     requires fit { AllByRecursion IsFit members.now }

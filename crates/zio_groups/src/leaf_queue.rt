@@ -9,13 +9,14 @@ ghost use Rattle.zio_groups.specs.Issued.{EndsOn, IsFit, written_spots};
 ghost use Rattle.zio_groups.specs.LeafQueues.{IsIssued, kept_with, ops_of, queue_of, waiting_with};
 
 use crate::group::issue_group;
-use crate::waiting::{Answered, QueuedOp, add, with_room};
+use crate::waiting::{Answered, QueuedOp, add, no_bytes, with_room};
 use std::alloc::Global;
 use std::collections::HashMap;
 use std::marker::Model;
 use zio_disks::{Setting, Stop};
 use zio_outside::Disk;
-use zio_types::{Bytes, List, NoMemory};
+use zio_shared::Shared;
+use zio_types::{List, NoMemory};
 use zio_vqueue::{Group, Op, VQueue};
 
 /// The operations that wait for one leaf, and the bytes of those that write.
@@ -23,9 +24,9 @@ use zio_vqueue::{Group, Op, VQueue};
 pub struct LeafQueue {
     queue: VQueue,
     /// What a queued write writes, by its ticket.
-    kept: HashMap<u64, Bytes>,
-    /// Where a span of several members is read or joined. Once they are issued what it holds is of no use.
-    buffer: Vec<u8>,
+    kept: HashMap<u64, Shared>,
+    /// The last span of several members, read or joined: its memory serves the next once nobody holds what was read.
+    buffer: Shared,
 }
 
 impl Model for LeafQueue {
@@ -50,13 +51,13 @@ impl LeafQueue {
         LeafQueue {
             queue: VQueue::new(alloc),
             kept: HashMap::new(alloc),
-            buffer: Vec::new(alloc),
+            buffer: no_bytes(alloc),
         }
     }
 
     /// Queues an operation under a ticket that isn't queued, with what it writes: zeros follow to its end. A read's
     /// bytes are dropped. Where memory is refused the queue is as it was, and the bytes are dropped.
-    pub fn put(&mut self, op: Op, bytes: Bytes) -> Result<(), NoMemory>
+    pub fn put(&mut self, op: Op, bytes: Shared) -> Result<(), NoMemory>
         requires fits { FitsDevice op }
         requires room { length bytes ≤ op.len }
         requires apart { is_queued op.ticket (ops_of self.old.waiting) ≡ false }
@@ -135,7 +136,7 @@ fn next_group(queue: &mut VQueue) -> Result<Group, Stop>
 }
 
 /// Keeps the bytes of a write.
-fn keep(kept: &mut HashMap<u64, Bytes>, op: &Op, bytes: Bytes) -> Result<(), NoMemory>
+fn keep(kept: &mut HashMap<u64, Shared>, op: &Op, bytes: Shared) -> Result<(), NoMemory>
     ensures bytes { OnOk result (kept_with (get nat_eq kept.new) op.now ≡ waiting_with op.now bytes) }
     ensures others { (ticket : ℕ) → ticket ≢ op.now.ticket → get nat_eq kept.new ticket ≡ get nat_eq kept.old ticket }
     ensures err { OnErr result ((ticket : ℕ) → get nat_eq kept.new ticket ≡ get nat_eq kept.old ticket) }
@@ -149,7 +150,7 @@ fn keep(kept: &mut HashMap<u64, Bytes>, op: &Op, bytes: Bytes) -> Result<(), NoM
 /// The operations, each with its bytes, which are kept no more.
 fn take_kept(
     alloc: Global,
-    kept: &mut HashMap<u64, Bytes>,
+    kept: &mut HashMap<u64, Shared>,
     ops: &[Op],
 ) -> Result<List<QueuedOp>, Stop>
     requires apart { AreApart ops.now }
@@ -169,17 +170,17 @@ fn take_kept(
 }
 
 /// The bytes that are kept for a write.
-fn take_bytes(alloc: Global, kept: &mut HashMap<u64, Bytes>, op: &Op) -> Bytes
+fn take_bytes(alloc: Global, kept: &mut HashMap<u64, Shared>, op: &Op) -> Shared
     ensures bytes { record { op = op.now; bytes = result } ≡ kept_with (get nat_eq kept.old) op.now }
     ensures others { (ticket : ℕ) → ticket ≢ op.now.ticket → get nat_eq kept.new ticket ≡ get nat_eq kept.old ticket }
     ensures fewer { (ticket : ℕ) → length (unwrap_or (get nat_eq kept.new ticket) [])
         ≤ length (unwrap_or (get nat_eq kept.old ticket) []) }
 {
     if !op.write {
-        return Bytes::new(alloc);
+        return no_bytes(alloc);
     }
     match kept.remove(&op.ticket) {
         Some(bytes) => bytes,
-        None => Bytes::new(alloc),
+        None => no_bytes(alloc),
     }
 }

@@ -8,10 +8,11 @@ ghost use Rattle.zio_cksum.specs.Images.{Images, read_leaf, write_leaf};
 ghost use Rattle.zio_disks.specs.Disks.{Handles, Tell};
 ghost use Rattle.zio_groups.specs.Issued.{AreWhole, EndsOn, IsFit, IsWhole, all_issued, head_of, one_issued, read_answered, spot_of, written_spots};
 
-use crate::waiting::{Answered, QueuedOp, add, with_room};
+use crate::waiting::{Answered, QueuedOp, add, no_bytes, with_room};
 use std::alloc::Global;
 use zio_disks::{Setting, Spot, Stop, padded_to, read_leaf, write_leaf};
 use zio_outside::Disk;
+use zio_shared::Shared;
 use zio_types::{Bytes, Errno, List};
 use zio_vqueue::Op;
 
@@ -66,7 +67,7 @@ fn read_one<D: Disk>(
         return Ok(Answered {
             ticket,
             error: None,
-            bytes: Bytes::new(alloc),
+            bytes: no_bytes(alloc),
         });
     }
     let spot = spot_of(leaf, op);
@@ -74,8 +75,8 @@ fn read_one<D: Disk>(
     let retry = op.flags.retry;
     let error = read_leaf(setting, disks, retry, &spot, buffer.as_mut_slice())?;
     let bytes = match error {
-        None => Bytes::from_vec(buffer),
-        Some(_) => Bytes::new(alloc),
+        None => Shared::alone(Bytes::from_vec(buffer)),
+        Some(_) => no_bytes(alloc),
     };
     Ok(Answered {
         ticket,
@@ -144,7 +145,7 @@ pub(crate) fn issue_one<D: Disk>(
     Ok(Answered {
         ticket: op.ticket,
         error,
-        bytes: Bytes::new(alloc),
+        bytes: no_bytes(alloc),
     })
 }
 

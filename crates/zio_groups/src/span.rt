@@ -1,6 +1,6 @@
 // A group whose span is one call of the device.
 
-ghost use Rattle.std.specs.Prelude.{◌≡◌, ◌∷◌, ◌+◌, ◌-◌, ◌≤◌, ◌++◌, Err, IfOk, OnErr, OnOk, [], length, map, slice_index_or, take, drop, true, vec_len};
+ghost use Rattle.std.specs.Prelude.{◌≡◌, ◌∷◌, ◌+◌, ◌-◌, ◌≤◌, ◌++◌, Err, IfOk, OnErr, OnOk, [], length, map, slice_index_or, take, drop, true};
 ghost use Rattle.std.specs.List.{AllByRecursion};
 ghost use Rattle.zio_vqueue.specs.Members.{LiesIn};
 ghost use Rattle.zio_cksum.specs.Images.{Images, bytes_at, padded_to, with_bytes};
@@ -9,11 +9,13 @@ ghost use Rattle.zio_groups.specs.Issued.{IsFit};
 ghost use Rattle.zio_groups.specs.LeafQueues.{AreMembers, ops_of};
 ghost use Rattle.zio_groups.specs.Spans.{AreParts, joined, part_answered, span_spot, stored_answered};
 
-use crate::waiting::{Answered, QueuedOp, add, with_room};
+use crate::waiting::{Answered, QueuedOp, add, no_bytes, with_room};
 use std::alloc::Global;
+use std::mem::replace;
 use zio_disks::{Spot, Stop, fetch, store};
 use zio_outside::Disk;
-use zio_types::{Bytes, List};
+use zio_shared::Shared;
+use zio_types::{Bytes, List, NoMemory};
 use zio_vqueue::{Group, Op};
 
 fn span_spot(leaf: u32, group: &Group) -> Spot
@@ -27,17 +29,17 @@ fn span_spot(leaf: u32, group: &Group) -> Spot
 }
 
 /// An operation's bytes of those of its group's span.
-fn part_of(alloc: Global, group: &Group, op: &Op, span: &[u8]) -> Result<Bytes, Stop>
+fn part_of(alloc: Global, group: &Group, op: &Op, span: &mut Shared) -> Result<Shared, Stop>
     requires inside { LiesIn group.now op.now }
-    requires span { length span.now ≡ group.now.len }
-    ensures ok { IfOk result (λ bytes. bytes ≡ take op.now.len (drop (op.now.at - group.now.at) span.now)) }
+    requires span { length span.old ≡ group.now.len }
+    ensures ok { IfOk result (λ bytes. bytes ≡ take op.now.len (drop (op.now.at - group.now.at) span.old)) }
+    ensures same { span.new ≡ span.old }
     ensures err { OnErr result (result ≡ Err Stop.Memory) }
 {
     let start = (op.at - group.at) as usize;
-    let mut bytes = Bytes::new(alloc);
-    match bytes.extend_from_slice(&span[start..start + op.len as usize]) {
-        Ok(()) => Ok(bytes),
-        Err(_) => Err(Stop::Memory),
+    match span.part(alloc, start, op.len as usize) {
+        Ok(bytes) => Ok(bytes),
+        Err(NoMemory) => Err(Stop::Memory),
     }
 }
 
@@ -46,11 +48,11 @@ fn parts_of(
     alloc: Global,
     group: &Group,
     members: &[QueuedOp],
-    span: &[u8],
+    span: &mut Shared,
 ) -> Result<List<Answered>, Stop>
     requires inside { AllByRecursion (LiesIn group.now) (ops_of members.now) }
-    requires span { length span.now ≡ group.now.len }
-    ensures ok { IfOk result (λ answers. answers ≡ map (part_answered group.now.at span.now) members.now) }
+    requires span { length span.old ≡ group.now.len }
+    ensures ok { IfOk result (λ answers. answers ≡ map (part_answered group.now.at span.old) members.now) }
     ensures err { OnErr result (result ≡ Err Stop.Memory) }
 {
     let mut answers = with_room(alloc, members.len())?;
@@ -79,48 +81,48 @@ fn fetch_any<D: Disk>(disks: &mut [D], spot: &Spot, buffer: &mut [u8]) -> Result
     fetch(disks, spot, buffer)
 }
 
-/// Makes a buffer so long, where it is shorter.
-fn lengthen(buffer: &mut Vec<u8>, len: usize) -> Result<(), Stop>
-    ensures ok { OnOk result (len ≤ vec_len buffer.new) }
+/// So many bytes to be written over, in the buffer's memory where nobody else holds it. The buffer is left without any.
+fn room_in(alloc: Global, buffer: &mut Shared, len: usize) -> Result<Vec<u8>, Stop>
+    ensures ok { IfOk result (λ room. length room.items ≡ len) }
     ensures err { OnErr result (result ≡ Err Stop.Memory) }
 {
-    if len <= buffer.len() {
-        return Ok(());
-    }
-    match buffer.resize(len, 0) {
-        Ok(()) => Ok(()),
-        Err(_) => Err(Stop::Memory),
+    match replace(buffer, no_bytes(alloc)).into_room(alloc, len) {
+        Ok(room) => Ok(room),
+        Err(NoMemory) => Err(Stop::Memory),
     }
 }
 
-/// Reads the whole span into bytes that are as many, and gives each member its own.
+/// Reads the whole span into a room for it, which the buffer holds from then on, and gives each member its part.
 fn read_parts<D: Disk>(
     alloc: Global,
     disks: &mut [D],
     leaf: u32,
     group: &Group,
     members: &[QueuedOp],
-    span: &mut [u8],
+    room: Vec<u8>,
+    buffer: &mut Shared,
 ) -> Result<List<Answered>, Stop>
     requires inside { AllByRecursion (LiesIn group.now) (ops_of members.now) }
-    requires long { length span.old ≡ group.now.len }
+    requires long { length room.items ≡ group.now.len }
     requires lies { group.now.at + group.now.len ≤ slice_index_or (map D.bytes disks.old) leaf 0 }
     ensures parts { IfOk result (AreParts D.image leaf group.now members.now disks.old disks.new) }
     ensures handled { Handles D.bytes D.faults D.faults_at_fetch D.home D.image D.sound D.went [] result disks.old
         disks.new }
 {
-    fetch_any(disks, &span_spot(leaf, group), span)?;
-    parts_of(alloc, group, members, span)
+    let mut room = room;
+    fetch_any(disks, &span_spot(leaf, group), room.as_mut_slice())?;
+    *buffer = Shared::alone(Bytes::from_vec(room));
+    parts_of(alloc, group, members, buffer)
 }
 
-/// Reads the whole span, and gives each member its bytes. What was in the buffer is lost.
+/// Reads the whole span, and gives each member its part of it. What was in the buffer is lost.
 pub(crate) fn read_span<D: Disk>(
     alloc: Global,
     disks: &mut [D],
     leaf: u32,
     group: &Group,
     members: &[QueuedOp],
-    buffer: &mut Vec<u8>,
+    buffer: &mut Shared,
 ) -> Result<List<Answered>, Stop>
     requires inside { AllByRecursion (LiesIn group.now) (ops_of members.now) }
     requires lies { group.now.at + group.now.len ≤ slice_index_or (map D.bytes disks.old) leaf 0 }
@@ -128,9 +130,8 @@ pub(crate) fn read_span<D: Disk>(
     ensures handled { Handles D.bytes D.faults D.faults_at_fetch D.home D.image D.sound D.went [] result disks.old
         disks.new }
 {
-    let len = group.len as usize;
-    lengthen(buffer, len)?;
-    read_parts(alloc, disks, leaf, group, members, &mut buffer[..len])
+    let room = room_in(alloc, buffer, group.len as usize)?;
+    read_parts(alloc, disks, leaf, group, members, room, buffer)
 }
 
 /// Puts bytes at the end, and zeros behind them to so many.
@@ -175,7 +176,7 @@ fn stored(alloc: Global, members: &[QueuedOp]) -> Result<List<Answered>, Stop>
         let answer = Answered {
             ticket: member.op.ticket,
             error: None,
-            bytes: Bytes::new(alloc),
+            bytes: no_bytes(alloc),
         };
         add(&mut answers, answer)?;
     }
@@ -189,7 +190,7 @@ pub(crate) fn write_span<D: Disk>(
     leaf: u32,
     group: &Group,
     members: &[QueuedOp],
-    buffer: &mut Vec<u8>,
+    buffer: &mut Shared,
 ) -> Result<List<Answered>, Stop>
     requires fit { AllByRecursion IsFit members.now }
     requires members { AreMembers group.now true members.now }
@@ -200,7 +201,9 @@ pub(crate) fn write_span<D: Disk>(
     ensures handled { Handles D.bytes D.faults D.faults_at_fetch D.home D.image D.sound D.went (span_spot leaf group.now
         ∷ []) result disks.old disks.new }
 {
-    join_all(buffer, members, group.len as usize)?;
-    store(disks, buffer.as_slice(), &span_spot(leaf, group))?;
+    let mut whole = room_in(alloc, buffer, 0)?;
+    join_all(&mut whole, members, group.len as usize)?;
+    store(disks, whole.as_slice(), &span_spot(leaf, group))?;
+    *buffer = Shared::alone(Bytes::from_vec(whole));
     stored(alloc, members)
 }

@@ -2,24 +2,31 @@ ghost use Rattle.std.specs.Prelude.{◌≡◌, ◌++◌, ◌∷◌, [], Err, IfO
 
 use std::alloc::Global;
 use zio_disks::Stop;
-use zio_types::{Bytes, Errno, List};
+use zio_shared::Shared;
+use zio_types::{Bytes, Errno, List, NoMemory};
 use zio_vqueue::Op;
 
 /// A queued operation.
-#[derive(Debug, Drop)]
+#[derive(Drop)]
 pub struct QueuedOp {
     pub op: Op,
     /// What it writes; zeros follow to its end. Of a read none.
-    pub bytes: Bytes,
+    pub bytes: Shared,
 }
 
 /// What an operation came to.
-#[derive(Debug, Drop)]
+#[derive(Drop)]
 pub struct Answered {
     pub ticket: u64,
     pub error: Option<Errno>,
-    /// All bytes of a read; none of a write, or after an error.
-    pub bytes: Bytes,
+    /// All bytes of a read; none of a write, or after an error. Reads that were one call of the device share what it read.
+    pub bytes: Shared,
+}
+
+pub(crate) fn no_bytes(alloc: Global) -> Shared
+    ensures { result ≡ [] }
+{
+    Shared::alone(Bytes::new(alloc))
 }
 
 /// A list that has nothing yet, with room for so many items.

@@ -10,6 +10,7 @@ pub mod FreeLemmas
 pub mod GivenBack
 pub mod HeadsLemmas
 pub mod KidMarks
+pub mod LastMoves
 pub mod LeafLemmas
 pub mod LeavesOut
 pub mod LeftLemmas
@@ -39,7 +40,6 @@ pub mod RequestBoundLemmas
 pub mod RequestEndings
 pub mod RequestMoves
 pub mod RequestStill
-pub mod Settles
 pub mod StageAllows
 pub mod StageCuts
 pub mod StageLeads

@@ -1,6 +1,6 @@
 -- What a request's own work came to took its place: what that one does from there, it does.
 use Rattle.std.proofs.Common.{◌≡◌, ◌≤◌, List, [], ◌++◌, Result, Ok, Err, sym, ap, subst, ◌∙◌, arith}
-use Rattle.std.specs.Prelude.{IfErr, IfOk}
+use Rattle.std.specs.Prelude.{IfOk, OnErr}
 use Rattle.zio_types.specs.declared.place.Place.{Place}
 use Rattle.zio_types.specs.declared.place.Top.{Top}
 use Rattle.zio_gang.specs.Attempts.{Terms}
@@ -11,21 +11,12 @@ use Rattle.zio_stages.specs.RequestNodes.{IsRequestNode}
 use Rattle.zio_staged.specs.Stages.{GoesOn, IsMove, IsNow, Lessens, Stays}
 use Rattle.zio_nodes.specs.SealedMoves.{Move}
 use Rattle.zio_staged.specs.declared.staged.Move.TheVariants.{End, Grow, Leaf as ToLeaf, Next, Ready, Wait}
-use Rattle.zio_nodes.specs.Nodes.{MovesBare, StaysBare, gave_of, left_of, nodes}
+use Rattle.zio_nodes.specs.Nodes.{MovesBare, StaysBare, gave_of, last_moved, left_of, nodes}
 use Rattle.zio_nodes.specs.Told.{is_told}
 use Rattle.zio_nodes.specs.declared.node.Node.{Node}
 use Rattle.zio_nodes.specs.declared.node.Node.TheVariants.{Request}
 use Rattle.zio_nodes.specs.declared.request_at.RequestAt.{RequestAt}
-
--- ---- whatever it comes to
-
-pub ok_map : {A E : Type 0} {P Q : A → Type 0} (result : Result A E) → ((x : A) → P x → Q x) → IfOk result P → IfOk result Q
-ok_map (Ok x) f h = f x h
-ok_map (Err e) f h = h
-
-pub err_map : {A E : Type 0} {P Q : E → Type 0} (result : Result A E) → ((x : E) → P x → Q x) → IfErr result P → IfErr result Q
-err_map (Ok x) f h = h
-err_map (Err e) f h = f e h
+use Rattle.zio_nodes.specs.declared.turn.Last.{Last}
 
 -- ---- from the one that has what it came to
 
@@ -100,18 +91,27 @@ move_from t st a b (End outcome) same g = record {
   places = subst (λ (gave : List Place). IsPermutation (held_by st ++ freed_by st.outer.op outcome) (gave ++ g.gone ++ made_by outcome ++ stored_in g.value)) same.gave g.places;
 }
 
-pub moves_from : (tops : List Top) (a b : RequestAt) → IsSame a b → (move : Move Node) → MovesBare tops (Request b) move → MovesBare tops (Request a) move
-moves_from tops a b same move h = λ t st n. move_from t st a b move same (h t st (now_same tops t st a b same n))
+pub moves_from : {E : Type 0} (tops : List Top) (a b : RequestAt) (after : Node) (r : Result Last E) → IsSame a b → IfOk r (λ last. MovesBare tops (Request b) (last_moved after last))
+    → IfOk r (λ last. MovesBare tops (Request a) (last_moved after last))
+moves_from tops a b after (Ok last) same h = λ t st n. move_from t st a b (last_moved after last) same (h t st (now_same tops t st a b same n))
+moves_from tops a b after (Err e) same h = tt
 
-pub stays_from : (tops : List Top) (a b : RequestAt) → IsSame a b → (after : Node) → StaysBare tops (Request b) after → StaysBare tops (Request a) after
-stays_from tops a b same after h = λ t st n. goes_from t st a b after same (h t st (now_same tops t st a b same n))
+pub stays_from : {E : Type 0} (tops : List Top) (a b : RequestAt) (after : Node) (r : Result Last E) → IsSame a b → OnErr r (StaysBare tops (Request b) after)
+    → OnErr r (StaysBare tops (Request a) after)
+stays_from tops a b after (Ok last) same h = tt
+stays_from tops a b after (Err e) same h = λ t st n. goes_from t st a b after same (h t st (now_same tops t st a b same n))
 
 -- ---- and no less often
 
-pub lessens_from : (a b : Node) → left_of b ≤ left_of a → (move : Move Node) → Lessens left_of b move → Lessens left_of a move
-lessens_from a b less (Next after) h = omega (arith, less, h)
-lessens_from a b less (Wait after kind phase) h = omega (arith, less, h)
-lessens_from a b less (Grow after child kind) h = omega (arith, less, h)
-lessens_from a b less (ToLeaf after op leaf bytes) h = omega (arith, less, h)
-lessens_from a b less (Ready after pointer) h = omega (arith, less, h)
-lessens_from a b less (End outcome) h = omega (arith, less, h)
+less_from : (a b : Node) → left_of b ≤ left_of a → (move : Move Node) → Lessens left_of b move → Lessens left_of a move
+less_from a b less (Next after) h = omega (arith, less, h)
+less_from a b less (Wait after kind phase) h = omega (arith, less, h)
+less_from a b less (Grow after child kind) h = omega (arith, less, h)
+less_from a b less (ToLeaf after op leaf bytes) h = omega (arith, less, h)
+less_from a b less (Ready after pointer) h = omega (arith, less, h)
+less_from a b less (End outcome) h = omega (arith, less, h)
+
+pub lessens_from : {E : Type 0} (a b after : Node) (r : Result Last E) → left_of b ≤ left_of a → IfOk r (λ last. Lessens left_of b (last_moved after last))
+    → IfOk r (λ last. Lessens left_of a (last_moved after last))
+lessens_from a b after (Ok last) less h = less_from a b less (last_moved after last) h
+lessens_from a b after (Err e) less h = tt

@@ -26,6 +26,8 @@ pub use Rattle.zio_nodes.specs.TreeAts.{IsTreeOver}
 use Rattle.zio_nodes.specs.declared.node.Node.{Node}
 use Rattle.zio_nodes.specs.declared.node.Node.TheVariants.{Copies, Empty, Heads, Leaf, Part, Request, Tree}
 use Rattle.zio_nodes.specs.declared.node_box.NodeBox.{NodeBox}
+use Rattle.zio_nodes.specs.declared.turn.Last.{Last}
+use Rattle.zio_nodes.specs.declared.turn.Last.TheVariants.{End as LastEnds, Wait as LastWaits}
 use Rattle.zio_nodes.specs.declared.turn.Turn.{Turn}
 use Rattle.zio_nodes.specs.declared.turn.Turn.TheVariants.{End as Ended, Grow as Grown, Leaf as Handed, Next as On, Ready as Told, Wait as Waiting}
 
@@ -96,14 +98,16 @@ moved node (Waiting kind phase) = Wait node kind phase
 moved node (Grown child kind) = Grow node child.value kind
 moved node (Handed op leaf bytes) = ToLeaf node op leaf bytes
 moved node (Told pointer) = Ready node pointer
-moved node (Ended outcome) = End outcome
+moved node (Ended outcome) = End outcome.value
 
--- the node is as the move leaves it, and nothing new stands beside it
-abbrev pub IsInPlace : Move Node → Type 0
-IsInPlace (Next after) = Unit {0}
-IsInPlace (Wait after kind phase) = Unit {0}
-IsInPlace (End outcome) = Unit {0}
-IsInPlace _ = ⊥
+-- the same of its last stage
+abbrev pub last_moved : Node → Last → Move Node
+last_moved node (LastWaits kind phase) = Wait node kind phase
+last_moved node (LastEnds outcome) = End outcome
+
+abbrev pub is_copies : Node → Bool
+is_copies (Copies at) = true
+is_copies _ = false
 
 abbrev pub is_tree : Node → Bool
 is_tree (Tree at) = true

@@ -203,8 +203,3 @@ IsLastMove _ = ⊥
 abbrev pub IsEndMove : Move Node → Type 0
 IsEndMove (End outcome) = Unit {0}
 IsEndMove _ = ⊥
-
--- what comes of a tree: the request at its root starts
-abbrev pub IsStart : Move Node → Type 0
-IsStart (Next after) = stage_of after ≡ Start
-IsStart _ = ⊥

@@ -8,11 +8,12 @@ ghost use Rattle.zio_trace.specs.Tasks.{Task, Value};
 ghost use Rattle.zio_frames.specs.Frames.{Child, Stack, fresh_stack};
 ghost use Rattle.zio_frames.specs.Moves.{heard_of};
 ghost use Rattle.zio_stages.specs.CopiesNodes.{IsCopiesNode, IsCopiesOver};
+ghost use Rattle.zio_staged.specs.declared.staged.Move.TheVariants.{End};
 ghost use Rattle.zio_staged.specs.Stages.{EachIn, Hears, HearsSome, Lessens, MayGoOn, heard_max};
 ghost use Rattle.zio_nodes.specs.Bounds.{copies_left, copies_max};
 ghost use Rattle.zio_nodes.specs.CopiesAts.{IsCopiesAt, IsCopiesAtOver};
 ghost use Rattle.zio_nodes.specs.Passes.{IsInPassOf, KeepsPassAt};
-ghost use Rattle.zio_nodes.specs.StageMoves.{IsLastMove, IsStageMove};
+ghost use Rattle.zio_nodes.specs.StageMoves.{IsStageMove};
 ghost use Rattle.zio_nodes.specs.Nodes.{IsNodeDue, IsNodeOver, IsTreeOver, MovesBare, StaysBare, left_of, moved, nodes};
 ghost use Rattle.zio_nodes.specs.Told.{is_told};
 
@@ -23,8 +24,7 @@ use crate::turn::{Turn, new_room};
 use std::alloc::Global;
 use zio_exchange::unsummed;
 use zio_masks::{READ, Stage, next};
-use zio_staged::Move;
-use zio_stages::{CopiesNode, Family, IoNext, Outcome, Seal, reads_tell_no_pointer};
+use zio_stages::{CopiesNode, Family, IoNext, Outcome, reads_tell_no_pointer};
 use zio_types::{ChildKind, NoMemory, Phase, Top};
 
 /// The read of a block's copies at a stage of its pipeline.
@@ -237,18 +237,16 @@ impl CopiesAt {
         Turn::Next
     }
 
-    /// Ends with the good bytes, or the error where no copy was good.
-    pub(crate) fn done(self, tops: &[Top]) -> Move<Node, Seal>
+    /// What it ends with: the good bytes, or the error where no copy was good.
+    pub(crate) fn into_outcome(self, tops: &[Top]) -> Outcome
         requires over { IsCopiesAtOver tops.now self }
         requires stage { self.stage ≡ Stage.Done }
-        ensures moves { MovesBare tops.now (Node.Copies self) result }
-        ensures over { EachIn (IsNodeOver tops.now) (IsTreeOver tops.now) result }
-        ensures may { MayGoOn IsNodeDue result }
-        ensures last { IsLastMove result }
-        ensures left { Lessens left_of (Node.Copies self) result }
+        ensures moves { MovesBare tops.now (Node.Copies self) (End result) }
+        ensures over { EachIn (IsNodeOver tops.now) (IsTreeOver tops.now) (End result) }
+        ensures left { Lessens left_of (Node.Copies self) (End result) }
     {
         let CopiesAt { node, .. } = self;
-        Move::End(Outcome::Found(unsummed(node.into_found(tops))))
+        Outcome::Found(unsummed(node.into_found(tops)))
     }
 
     /// A child ended: an operation on a leaf, with the bytes of its read, with none of a repair, or with an error.

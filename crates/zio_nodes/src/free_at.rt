@@ -3,25 +3,24 @@
 //! It walks over the headers of its block first, a gang's by a child, and gives the block's places back where no header
 //! failed: a gang's at GangIssue, and a plain block's at DvaFree.
 
-ghost use Rattle.std.specs.Prelude.{◌≡◌, ◌≢◌, ◌⊎◌, IfErr, IfOk, List as Seq, OnErr};
+ghost use Rattle.std.specs.Prelude.{◌≡◌, ◌≢◌, ◌⊎◌, IfOk, List as Seq, OnErr};
 ghost use Rattle.zio_types.specs.declared.place.Top.{Top as SeenTop};
 ghost use Rattle.zio_script.specs.Requests.{kind_of};
 ghost use Rattle.zio_staged.specs.Stages.{EachIn, Lessens, MayGoOn};
 ghost use Rattle.zio_stages.specs.RequestFrees.{HasKeptFailed, HasWalked, IsFreeWith, IsFreeing};
 ghost use Rattle.zio_nodes.specs.Passes.{KeepsPassAt};
 ghost use Rattle.zio_nodes.specs.StageMoves.{IsLastMove, IsNextOf, IsStageMove, takes_stage};
-ghost use Rattle.zio_nodes.specs.Nodes.{IsNodeDue, IsNodeOver, IsTreeOver, MovesBare, MovesWith, StaysBare, StaysWith, left_of, moved};
+ghost use Rattle.zio_nodes.specs.Nodes.{IsNodeDue, IsNodeOver, IsTreeOver, MovesBare, MovesWith, StaysBare, StaysWith, last_moved, left_of, moved};
 ghost use Rattle.zio_nodes.specs.RequestAts.{IsRequestAtOver};
 
 use crate::heads_at::HeadsAt;
 use crate::node::Node;
 use crate::request_at::RequestAt;
-use crate::turn::{Turn, new_room};
+use crate::turn::{Last, Turn, new_room};
 use std::alloc::Global;
 use zio_exchange::Services;
 use zio_masks::{FREE, INTERLOCK, Stage, next, with_gang};
-use zio_staged::Move;
-use zio_stages::{DoneStep, Seal};
+use zio_stages::DoneStep;
 use zio_types::{ChildKind, Kind, NoMemory, Phase};
 
 impl RequestAt {
@@ -270,25 +269,27 @@ impl RequestAt {
         self.tell_none(to)
     }
 
-    /// Ends once its children have. Where memory is refused it comes back, and what it came to stays.
+    /// Ends once its children have. Where memory is refused what it came to stays.
     #[inline(never)]
-    pub(crate) fn free_done(self, alloc: Global) -> Result<Move<Node, Seal>, Node>
-        requires over { (tops : Seq SeenTop) × IsRequestAtOver tops self }
-        requires kind { kind_of self.node.waiting.request.work ≡ Kind.Free }
-        requires stage { self.stage ≡ Stage.Done }
-        ensures moves { (tops : Seq SeenTop) → IfOk result (MovesBare tops (Node.Request self)) }
-        ensures over { (tops : Seq SeenTop) → IsRequestAtOver tops self
-            → IfOk result (EachIn (IsNodeOver tops) (IsTreeOver tops)) }
-        ensures may { IfOk result (MayGoOn IsNodeDue) }
-        ensures last { IfOk result IsLastMove }
-        ensures left { IfOk result (Lessens left_of (Node.Request self)) }
-        ensures refused { (tops : Seq SeenTop) → IfErr result (StaysBare tops (Node.Request self)) }
+    pub(crate) fn free_done(&mut self, alloc: Global) -> Result<Last, NoMemory>
+        requires over { (tops : Seq SeenTop) × IsRequestAtOver tops self.old }
+        requires kind { kind_of self.old.node.waiting.request.work ≡ Kind.Free }
+        requires stage { self.old.stage ≡ Stage.Done }
+        ensures moves { (tops : Seq SeenTop)
+            → IfOk result (λ last. MovesBare tops (Node.Request self.old) (last_moved (Node.Request self.new) last)) }
+        ensures over { (tops : Seq SeenTop) → IsRequestAtOver tops self.old
+            → IfOk result (λ last. EachIn (IsNodeOver tops) (IsTreeOver tops) (last_moved (Node.Request self.new) last)) }
+        ensures may { IfOk result (λ last. MayGoOn IsNodeDue (last_moved (Node.Request self.new) last)) }
+        ensures last { IfOk result (λ last. IsLastMove (last_moved (Node.Request self.new) last)) }
+        ensures left { IfOk result
+            (λ last. Lessens left_of (Node.Request self.old) (last_moved (Node.Request self.new) last)) }
+        ensures refused { (tops : Seq SeenTop)
+            → OnErr result (StaysBare tops (Node.Request self.old) (Node.Request self.new)) }
     {
         if let DoneStep::Wait(kind) = self.node.done_null() {
-            return Ok(Move::Wait(Node::Request(self), kind, Phase::Done));
+            return Ok(Last::Wait(kind, Phase::Done));
         }
-        let mut at = self;
-        at.node.end_free(alloc);
-        at.end_found(alloc)
+        self.node.end_free(alloc);
+        self.end_found(alloc)
     }
 }

@@ -13,17 +13,16 @@ ghost use Rattle.zio_nodes.specs.Bounds.{heads_left, walk_max};
 ghost use Rattle.zio_nodes.specs.HeadsAts.{IsHeadsAtOver};
 ghost use Rattle.zio_nodes.specs.Stalls.{LeavesGang};
 ghost use Rattle.zio_nodes.specs.StageMoves.{IsLastMove, IsStageMove};
-ghost use Rattle.zio_nodes.specs.Nodes.{IsNodeDue, IsNodeOver, IsTreeOver, MovesBare, StaysBare, left_of, moved, nodes};
+ghost use Rattle.zio_nodes.specs.Nodes.{IsNodeDue, IsNodeOver, IsTreeOver, MovesBare, StaysBare, last_moved, left_of, moved, nodes};
 ghost use Rattle.zio_nodes.specs.Told.{is_told};
 
 use crate::copies_at::CopiesAt;
 use crate::node::Node;
 use crate::stall::gang_stall;
-use crate::turn::{Turn, new_room};
+use crate::turn::{Last, Turn, new_room};
 use std::alloc::Global;
 use zio_masks::{INTERLOCK, Stage, next, with_gang};
-use zio_staged::Move;
-use zio_stages::{Family, HeadsBack, HeadsNode, Outcome, Seal, WalkStage, reads_tell_no_pointer};
+use zio_stages::{Family, HeadsNode, Outcome, WalkStage, reads_tell_no_pointer};
 use zio_types::{ChildKind, NoMemory, Phase, Top};
 
 /// The walk over headers at a stage of its pipeline.
@@ -174,28 +173,22 @@ impl HeadsAt {
         Turn::Ready(None)
     }
 
-    /// Ends with what the walk left. Where memory is refused it comes back as it was.
-    pub(crate) fn done(self, alloc: Global, tops: &[Top]) -> Result<Move<Node, Seal>, Node>
-        requires over { IsHeadsAtOver tops.now self }
-        requires stage { self.stage ≡ Stage.Done }
-        ensures moves { IfOk result (MovesBare tops.now (Node.Heads self)) }
-        ensures over { IfOk result (EachIn (IsNodeOver tops.now) (IsTreeOver tops.now)) }
-        ensures may { IfOk result (MayGoOn IsNodeDue) }
-        ensures last { IfOk result IsLastMove }
-        ensures left { IfOk result (Lessens left_of (Node.Heads self)) }
-        ensures refused { IfErr result (StaysBare tops.now (Node.Heads self)) }
+    /// Ends with what the walk left. Where memory is refused it is as it was.
+    pub(crate) fn done(&mut self, alloc: Global, tops: &[Top]) -> Result<Last, NoMemory>
+        requires over { IsHeadsAtOver tops.now self.old }
+        requires stage { self.old.stage ≡ Stage.Done }
+        ensures moves { IfOk result
+            (λ last. MovesBare tops.now (Node.Heads self.old) (last_moved (Node.Heads self.new) last)) }
+        ensures over { IfOk result
+            (λ last. EachIn (IsNodeOver tops.now) (IsTreeOver tops.now) (last_moved (Node.Heads self.new) last)) }
+        ensures may { IfOk result (λ last. MayGoOn IsNodeDue (last_moved (Node.Heads self.new) last)) }
+        ensures last { IfOk result (λ last. IsLastMove (last_moved (Node.Heads self.new) last)) }
+        ensures left { IfOk result (λ last. Lessens left_of (Node.Heads self.old) (last_moved (Node.Heads self.new) last)) }
+        ensures refused { OnErr result (StaysBare tops.now (Node.Heads self.old) (Node.Heads self.new)) }
     {
-        let HeadsAt { node, .. } = self;
-        match node.into_walked(alloc) {
-            Ok(walked) => Ok(Move::End(Outcome::Walked(walked))),
-            Err(HeadsBack { node }) => {
-                let at = HeadsAt {
-                    node,
-                    stage: Stage::Done,
-                    alloc,
-                };
-                Err(Node::Heads(at))
-            }
+        match self.node.take_walked(alloc) {
+            Ok(walked) => Ok(Last::End(Outcome::Walked(walked))),
+            Err(NoMemory) => Err(NoMemory),
         }
     }
 

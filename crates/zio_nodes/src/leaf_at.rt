@@ -14,15 +14,14 @@ ghost use Rattle.zio_nodes.specs.Aheads.{FitsLeaf};
 ghost use Rattle.zio_nodes.specs.Bounds.{leaf_left, leaf_max};
 ghost use Rattle.zio_nodes.specs.LeafAts.{IsLeafAt, LeafStands};
 ghost use Rattle.zio_nodes.specs.StageMoves.{IsLastMove, IsStageMove};
-ghost use Rattle.zio_nodes.specs.Nodes.{IsNodeDue, IsNodeOver, IsTreeOver, MovesBare, left_of, moved};
+ghost use Rattle.zio_nodes.specs.Nodes.{IsNodeDue, IsNodeOver, IsTreeOver, MovesBare, last_moved, left_of, moved};
 ghost use Rattle.zio_nodes.specs.Told.{is_told};
 
 use crate::ahead::Ahead;
 use crate::node::Node;
-use crate::turn::Turn;
+use crate::turn::{Last, Turn};
 use zio_masks::{Stage, VDEV_CHILD, next};
-use zio_staged::Move;
-use zio_stages::{LeafWork, Outcome, Seal};
+use zio_stages::{LeafWork, Outcome};
 use zio_types::{Bytes, Errno, List};
 
 /// An operation on a leaf at a stage of its pipeline.
@@ -166,17 +165,17 @@ impl LeafAt {
     }
 
     /// Ends with what the leaf answered.
-    pub(crate) fn done(self) -> Move<Node, Seal>
-        requires stands { LeafStands self.stage self.is_out self.work }
-        requires stage { self.stage ≡ Stage.Done }
-        ensures moves { (tops : Seq SeenTop) → MovesBare tops (Node.Leaf self) result }
-        ensures over { (tops : Seq SeenTop) → EachIn (IsNodeOver tops) (IsTreeOver tops) result }
-        ensures may { MayGoOn IsNodeDue result }
-        ensures last { IsLastMove result }
-        ensures left { Lessens left_of (Node.Leaf self) result }
+    pub(crate) fn done(&mut self) -> Last
+        requires stands { LeafStands self.old.stage self.old.is_out self.old.work }
+        requires stage { self.old.stage ≡ Stage.Done }
+        ensures moves { (tops : Seq SeenTop) → MovesBare tops (Node.Leaf self.old) (last_moved (Node.Leaf self.new) result) }
+        ensures over { (tops : Seq SeenTop)
+            → EachIn (IsNodeOver tops) (IsTreeOver tops) (last_moved (Node.Leaf self.new) result) }
+        ensures may { MayGoOn IsNodeDue (last_moved (Node.Leaf self.new) result) }
+        ensures last { IsLastMove (last_moved (Node.Leaf self.new) result) }
+        ensures left { Lessens left_of (Node.Leaf self.old) (last_moved (Node.Leaf self.new) result) }
     {
-        let LeafAt { work, .. } = self;
-        Move::End(Outcome::Found(work.into_found()))
+        Last::End(Outcome::Found(self.work.take_found()))
     }
 
     /// The leaf answered: an error or none, and of a read the bytes of its place, of which the first are kept that were

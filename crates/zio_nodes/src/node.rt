@@ -1,7 +1,7 @@
 //! A node of any kind: its stages, and what it hears.
 
 ghost use Rattle.std.specs.List.{list_any};
-ghost use Rattle.std.specs.Prelude.{◌≡◌, ◌+◌, ◌<◌, ◌≤◌, [], IfErr, IfOk, IfSome, IsTrue, List as Seq, None, OnErr, OnOk, Some, false, is_ok, length, true};
+ghost use Rattle.std.specs.Prelude.{◌≡◌, ◌+◌, ◌<◌, ◌≤◌, [], IfErr, IfOk, IfSome, IsTrue, List as Seq, None, OnErr, OnOk, Some, false, length, true};
 ghost use Rattle.zio_types.specs.declared.place.Top.{Top as SeenTop};
 ghost use Rattle.zio_blkptr.specs.Pointers.{valid};
 ghost use Rattle.zio_gang.specs.Attempts.{Pending, Terms};
@@ -27,7 +27,6 @@ ghost use Rattle.zio_staged.specs.Stages.{
 };
 ghost use Rattle.zio_nodes.specs.NodeNames.{kind_at, label_at, request_of, unfinished_at};
 ghost use Rattle.zio_nodes.specs.Nodes.{
-  IsInPlace,
   IsNode,
   IsNodeDue,
   IsNodeOver,
@@ -37,10 +36,11 @@ ghost use Rattle.zio_nodes.specs.Nodes.{
   StaysBare,
   StaysWith,
   gave_of,
+  is_copies,
   is_tree,
+  last_moved,
   left_of,
   moved,
-  moved as moved_to,
   nodes,
   told_of,
 };
@@ -55,15 +55,14 @@ use crate::part_at::PartAt;
 use crate::request_at::RequestAt;
 use crate::stall::stall_of;
 use crate::tree_at::TreeAt;
-use crate::turn::Turn;
+use crate::turn::{Last, Turn, end_room};
 use std::alloc::Global;
 use std::mem::replace;
 use zio_blkptr::Bp;
 use zio_exchange::{Services, Whole};
 use zio_masks::Stage;
 use zio_script::Failmode;
-use zio_staged::Move;
-use zio_stages::{Finished, Outcome, Seal, request_label};
+use zio_stages::{Finished, Outcome, request_label};
 use zio_types::{Bytes, ChildKind, Errno, Kind, NoMemory, Phase, ReqNo, Top};
 
 /// A node of a round.
@@ -81,7 +80,7 @@ pub enum Node {
     Tree(TreeAt),
     /// A request in an attempt.
     Request(RequestAt),
-    /// Nothing: the place of a node that is to come, or that ended.
+    /// Nothing: the place of a node that is to come.
     Empty,
 }
 
@@ -303,10 +302,16 @@ impl Node {
         ensures refused { (tops : Seq SeenTop) → OnErr result (StaysBare tops self.old self.new) }
     {
         match replace(self, Node::Empty) {
-            Node::Tree(at) => {
-                let started = at.run_stage(alloc);
-                self.settle(started)
-            }
+            Node::Tree(at) => match at.run_stage(alloc) {
+                Ok(request) => {
+                    self.put(Node::Request(request));
+                    Ok(Turn::Next)
+                }
+                Err(tree) => {
+                    self.put(Node::Tree(tree));
+                    Err(NoMemory)
+                }
+            },
             Node::Leaf(_)
             | Node::Copies(_)
             | Node::Heads(_)
@@ -316,7 +321,7 @@ impl Node {
         }
     }
 
-    /// Runs the stage where it ends, which takes it apart. Where memory is refused what it did of the stage stays.
+    /// Runs the stage where it ends. Where memory is refused what it did of the stage stays.
     #[inline(never)]
     fn run_last<S: Services>(&mut self, alloc: Global, services: &mut S) -> Result<Turn, NoMemory>
         requires over { IsNodeOver (S.tops services.old) self.old }
@@ -332,29 +337,34 @@ impl Node {
             (StaysWith S.made (S.tops services.old) services.old services.new self.old self.new) }
         ensures tops { S.tops services.new ≡ S.tops services.old }
     {
-        let last = replace(self, Node::Empty).last_move(alloc, services);
-        self.settle(last)
+        let mut room = end_room(alloc)?;
+        match self.end_stage(alloc, services)? {
+            Last::Wait(kind, phase) => Ok(Turn::Wait(kind, phase)),
+            Last::End(outcome) => {
+                *room = outcome;
+                Ok(Turn::End(room))
+            }
+        }
     }
 
-    /// The same of a node that isn't in a place.
-    fn last_move<S: Services>(
-        self,
-        alloc: Global,
-        services: &mut S,
-    ) -> Result<Move<Node, Seal>, Node>
-        requires over { IsNodeOver (S.tops services.old) self }
-        requires at_last { stage_of self ≡ Stage.Done }
-        ensures moves { IfOk result (MovesWith S.made (S.tops services.old) services.old services.new self) }
-        ensures over { IfOk result (EachIn (IsNodeOver (S.tops services.old)) (IsTreeOver (S.tops services.old))) }
-        ensures may { IfOk result (MayGoOn IsNodeDue) }
-        ensures last { IfOk result IsLastMove }
-        ensures left { IfOk result (Lessens left_of self) }
-        ensures refused { IfErr result (StaysWith S.made (S.tops services.old) services.old services.new self) }
+    /// The same, with what it ended with beside it.
+    fn end_stage<S: Services>(&mut self, alloc: Global, services: &mut S) -> Result<Last, NoMemory>
+        requires over { IsNodeOver (S.tops services.old) self.old }
+        requires at_last { stage_of self.old ≡ Stage.Done }
+        ensures moves { IfOk result (λ last. MovesWith S.made (S.tops services.old) services.old services.new self.old
+            (last_moved self.new last)) }
+        ensures over { IfOk result (λ last. EachIn (IsNodeOver (S.tops services.old)) (IsTreeOver (S.tops services.old))
+            (last_moved self.new last)) }
+        ensures may { IfOk result (λ last. MayGoOn IsNodeDue (last_moved self.new last)) }
+        ensures left { IfOk result (λ last. Lessens left_of self.old (last_moved self.new last)) }
+        ensures stages { IfOk result (λ last. IsStageMove self.old (last_moved self.new last)) }
+        ensures refused { OnErr result
+            (StaysWith S.made (S.tops services.old) services.old services.new self.old self.new) }
         ensures tops { S.tops services.new ≡ S.tops services.old }
     {
         match self {
             Node::Leaf(at) => Ok(at.done()),
-            Node::Copies(at) => Ok(at.done(services.tops())),
+            Node::Copies(_) => Ok(self.end_copies(services.tops())),
             Node::Heads(at) => at.done(alloc, services.tops()),
             Node::Part(at) => at.done(alloc),
             Node::Request(at) => at.done(alloc, services),
@@ -362,30 +372,26 @@ impl Node {
         }
     }
 
-    /// What a stage came to that took the node apart: the node is in its place again, unless it ended.
-    fn settle(&mut self, moved: Result<Move<Node, Seal>, Node>) -> Result<Turn, NoMemory>
-        requires { IfOk moved IsInPlace }
-        ensures ok { IfOk moved (λ move. IfOk result (λ turn. moved_to self.new turn ≡ move)) }
-        ensures stays { IfErr moved (λ node. self.new ≡ node) }
-        ensures same { is_ok result ≡ is_ok moved }
+    /// The end of a read of copies, which is taken out of its place.
+    #[inline(never)]
+    fn end_copies(&mut self, tops: &[Top]) -> Last
+        requires copies { is_copies self.old ≡ true }
+        requires over { IsNodeOver tops.now self.old }
+        requires at_last { stage_of self.old ≡ Stage.Done }
+        ensures moves { MovesBare tops.now self.old (last_moved self.new result) }
+        ensures over { EachIn (IsNodeOver tops.now) (IsTreeOver tops.now) (last_moved self.new result) }
+        ensures may { MayGoOn IsNodeDue (last_moved self.new result) }
+        ensures last { IsLastMove (last_moved self.new result) }
+        ensures left { Lessens left_of self.old (last_moved self.new result) }
     {
-        match moved {
-            Ok(Move::Next(node)) => {
-                self.put(node);
-                Ok(Turn::Next)
-            }
-            Ok(Move::Wait(node, kind, phase)) => {
-                self.put(node);
-                Ok(Turn::Wait(kind, phase))
-            }
-            Ok(Move::End(outcome)) => Ok(Turn::End(outcome)),
-            Ok(Move::Grow(_, _, _)) => unreachable!(),
-            Ok(Move::Leaf(_, _, _, _)) => unreachable!(),
-            Ok(Move::Ready(_, _)) => unreachable!(),
-            Err(node) => {
-                self.put(node);
-                Err(NoMemory)
-            }
+        match replace(self, Node::Empty) {
+            Node::Copies(at) => Last::End(at.into_outcome(tops)),
+            Node::Leaf(_)
+            | Node::Heads(_)
+            | Node::Part(_)
+            | Node::Tree(_)
+            | Node::Request(_)
+            | Node::Empty => unreachable!(),
         }
     }
 

@@ -1,6 +1,6 @@
 // The stages of a gang's member that is written: its places and members, its pointer, its own copies, and its end.
 
-ghost use Rattle.std.specs.Prelude.{◌≡◌, Err, IfErr, IfOk, List as Seq, Ok, OnErr};
+ghost use Rattle.std.specs.Prelude.{◌≡◌, Err, IfOk, List as Seq, Ok, OnErr};
 ghost use Rattle.zio_types.specs.declared.place.Top.{Top as SeenTop};
 ghost use Rattle.zio_gang.specs.Attempts.{Terms};
 ghost use Rattle.zio_frames.specs.Frames.{Stack};
@@ -8,18 +8,17 @@ ghost use Rattle.zio_exchange.specs.SpaceCalls.{SpaceCall};
 ghost use Rattle.zio_staged.specs.Stages.{EachIn, GoesOn, IsMove, IsNow, Lessens, MayGoOn};
 ghost use Rattle.zio_nodes.specs.Passes.{KeepsPassAt};
 ghost use Rattle.zio_nodes.specs.StageMoves.{IsLastMove, IsStageMove};
-ghost use Rattle.zio_nodes.specs.Nodes.{IsNodeDue, IsNodeOver, IsTreeOver, MovesBare, MovesWith, StaysBare, StaysWith, left_of, moved};
+ghost use Rattle.zio_nodes.specs.Nodes.{IsNodeDue, IsNodeOver, IsTreeOver, MovesBare, MovesWith, StaysBare, StaysWith, last_moved, left_of, moved};
 ghost use Rattle.zio_nodes.specs.PartAts.{IsPartAtOver};
 
 use crate::leaf_at::LeafAt;
 use crate::node::Node;
 use crate::part_at::PartAt;
-use crate::turn::{Turn, new_room};
+use crate::turn::{Last, Turn, new_room};
 use std::alloc::Global;
 use zio_exchange::Services;
 use zio_masks::{Stage, WRITE, next};
-use zio_staged::Move;
-use zio_stages::{Allocated, DoneStep, IoNext, Outcome, PartNodeBack, ReadyStep, Seal};
+use zio_stages::{Allocated, DoneStep, IoNext, Outcome, ReadyStep};
 use zio_types::{ChildKind, NoMemory, Phase, Top};
 
 impl PartAt {
@@ -159,32 +158,26 @@ impl PartAt {
         Turn::Next
     }
 
-    /// Waits for its members, and ends with what was stored. Where memory is refused it comes back as it was.
-    pub(crate) fn done(self, alloc: Global) -> Result<Move<Node, Seal>, Node>
-        requires over { (tops : Seq SeenTop) × IsPartAtOver tops self }
-        requires stage { self.stage ≡ Stage.Done }
-        ensures moves { (tops : Seq SeenTop) → IfOk result (MovesBare tops (Node.Part self)) }
-        ensures over { (tops : Seq SeenTop) → IsPartAtOver tops self
-            → IfOk result (EachIn (IsNodeOver tops) (IsTreeOver tops)) }
-        ensures may { IfOk result (MayGoOn IsNodeDue) }
-        ensures last { IfOk result IsLastMove }
-        ensures left { IfOk result (Lessens left_of (Node.Part self)) }
-        ensures refused { (tops : Seq SeenTop) → IfErr result (StaysBare tops (Node.Part self)) }
+    /// Waits for its members, and ends with what was stored. Where memory is refused it is as it was.
+    pub(crate) fn done(&mut self, alloc: Global) -> Result<Last, NoMemory>
+        requires over { (tops : Seq SeenTop) × IsPartAtOver tops self.old }
+        requires stage { self.old.stage ≡ Stage.Done }
+        ensures moves { (tops : Seq SeenTop)
+            → IfOk result (λ last. MovesBare tops (Node.Part self.old) (last_moved (Node.Part self.new) last)) }
+        ensures over { (tops : Seq SeenTop) → IsPartAtOver tops self.old
+            → IfOk result (λ last. EachIn (IsNodeOver tops) (IsTreeOver tops) (last_moved (Node.Part self.new) last)) }
+        ensures may { IfOk result (λ last. MayGoOn IsNodeDue (last_moved (Node.Part self.new) last)) }
+        ensures last { IfOk result (λ last. IsLastMove (last_moved (Node.Part self.new) last)) }
+        ensures left { IfOk result (λ last. Lessens left_of (Node.Part self.old) (last_moved (Node.Part self.new) last)) }
+        ensures refused { (tops : Seq SeenTop)
+            → OnErr result (StaysBare tops (Node.Part self.old) (Node.Part self.new)) }
     {
         if let DoneStep::Wait(kind) = self.node.done() {
-            return Ok(Move::Wait(Node::Part(self), kind, Phase::Done));
+            return Ok(Last::Wait(kind, Phase::Done));
         }
-        let PartAt { node, is_due, .. } = self;
-        match node.into_stored(alloc) {
-            Ok(stored) => Ok(Move::End(Outcome::Stored(stored))),
-            Err(PartNodeBack { node }) => {
-                let at = PartAt {
-                    node,
-                    stage: Stage::Done,
-                    is_due,
-                };
-                Err(Node::Part(at))
-            }
+        match self.node.take_stored(alloc) {
+            Ok(stored) => Ok(Last::End(Outcome::Stored(stored))),
+            Err(NoMemory) => Err(NoMemory),
         }
     }
 }

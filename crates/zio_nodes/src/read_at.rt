@@ -3,14 +3,14 @@
 //! It walks over the headers of its block first, and reads the bodies then: a gang's by children, and else the one body
 //! by itself.
 
-ghost use Rattle.std.specs.Prelude.{◌≡◌, ◌≢◌, IfErr, IfOk, List as Seq, OnErr, false, true};
+ghost use Rattle.std.specs.Prelude.{◌≡◌, ◌≢◌, IfOk, List as Seq, OnErr, false, true};
 ghost use Rattle.zio_types.specs.declared.place.Top.{Top as SeenTop};
 ghost use Rattle.zio_script.specs.Requests.{kind_of};
 ghost use Rattle.zio_staged.specs.Stages.{EachIn, Lessens, MayGoOn};
 ghost use Rattle.zio_nodes.specs.Stalls.{LeavesGang};
 ghost use Rattle.zio_nodes.specs.Passes.{KeepsPassAt};
 ghost use Rattle.zio_nodes.specs.StageMoves.{IsLastMove, IsStageMove};
-ghost use Rattle.zio_nodes.specs.Nodes.{IsNodeDue, IsNodeOver, IsTreeOver, MovesBare, MovesWith, StaysBare, StaysWith, left_of, moved};
+ghost use Rattle.zio_nodes.specs.Nodes.{IsNodeDue, IsNodeOver, IsTreeOver, MovesBare, MovesWith, StaysBare, StaysWith, last_moved, left_of, moved};
 ghost use Rattle.zio_nodes.specs.RequestAts.{IsRequestAtOver};
 
 use crate::copies_at::CopiesAt;
@@ -18,12 +18,11 @@ use crate::heads_at::HeadsAt;
 use crate::node::Node;
 use crate::request_at::RequestAt;
 use crate::stall::gang_stall;
-use crate::turn::{Turn, new_room};
+use crate::turn::{Last, Turn, new_room};
 use std::alloc::Global;
 use zio_exchange::Services;
 use zio_masks::{INTERLOCK, READ, Stage, next, with_gang};
-use zio_staged::Move;
-use zio_stages::{BodyStage, ReadDone, Seal};
+use zio_stages::{BodyStage, ReadDone};
 use zio_types::{ChildKind, Kind, NoMemory, Phase, Top};
 
 impl RequestAt {
@@ -221,32 +220,31 @@ impl RequestAt {
         Turn::Next
     }
 
-    /// Ends once its children have. Where memory is refused it comes back, and what it came to stays.
+    /// Ends once its children have. Where memory is refused what it came to stays.
     #[inline(never)]
-    pub(crate) fn read_done(self, alloc: Global) -> Result<Move<Node, Seal>, Node>
-        requires over { (tops : Seq SeenTop) × IsRequestAtOver tops self }
-        requires kind { kind_of self.node.waiting.request.work ≡ Kind.Read }
-        requires stage { self.stage ≡ Stage.Done }
-        ensures moves { (tops : Seq SeenTop) → IfOk result (MovesBare tops (Node.Request self)) }
-        ensures over { (tops : Seq SeenTop) → IsRequestAtOver tops self
-            → IfOk result (EachIn (IsNodeOver tops) (IsTreeOver tops)) }
-        ensures may { IfOk result (MayGoOn IsNodeDue) }
-        ensures last { IfOk result IsLastMove }
-        ensures left { IfOk result (Lessens left_of (Node.Request self)) }
-        ensures refused { (tops : Seq SeenTop) → IfErr result (StaysBare tops (Node.Request self)) }
+    pub(crate) fn read_done(&mut self, alloc: Global) -> Result<Last, NoMemory>
+        requires over { (tops : Seq SeenTop) × IsRequestAtOver tops self.old }
+        requires kind { kind_of self.old.node.waiting.request.work ≡ Kind.Read }
+        requires stage { self.old.stage ≡ Stage.Done }
+        ensures moves { (tops : Seq SeenTop)
+            → IfOk result (λ last. MovesBare tops (Node.Request self.old) (last_moved (Node.Request self.new) last)) }
+        ensures over { (tops : Seq SeenTop) → IsRequestAtOver tops self.old
+            → IfOk result (λ last. EachIn (IsNodeOver tops) (IsTreeOver tops) (last_moved (Node.Request self.new) last)) }
+        ensures may { IfOk result (λ last. MayGoOn IsNodeDue (last_moved (Node.Request self.new) last)) }
+        ensures last { IfOk result (λ last. IsLastMove (last_moved (Node.Request self.new) last)) }
+        ensures left { IfOk result
+            (λ last. Lessens left_of (Node.Request self.old) (last_moved (Node.Request self.new) last)) }
+        ensures refused { (tops : Seq SeenTop)
+            → OnErr result (StaysBare tops (Node.Request self.old) (Node.Request self.new)) }
     {
         match self.node.done_read() {
-            ReadDone::Wait(kind) => {
-                return Ok(Move::Wait(Node::Request(self), kind, Phase::Done));
-            }
+            ReadDone::Wait(kind) => return Ok(Last::Wait(kind, Phase::Done)),
             ReadDone::More => unreachable!(),
             ReadDone::Close => {}
         }
-        let mut at = self;
-        let ended = at.node.end_read(alloc);
-        match ended {
-            Ok(()) => at.end_found(alloc),
-            Err(NoMemory) => Err(Node::Request(at)),
+        match self.node.end_read(alloc) {
+            Ok(()) => self.end_found(alloc),
+            Err(NoMemory) => Err(NoMemory),
         }
     }
 }

@@ -4,7 +4,7 @@
 //! `write_at`, `read_at`, `free_at` and `claim_at` have these, a function for each stage. `request_hear` has what it
 //! hears of attempts, `write_hear` and `own_hear` what it hears of its own work.
 
-ghost use Rattle.std.specs.Prelude.{◌≡◌, ◌≢◌, ◌+◌, ◌≤◌, ◌||◌, ◌&&◌, IfErr, IfOk, IfSome, IsTrue, List as Seq, Some, true, OnErr};
+ghost use Rattle.std.specs.Prelude.{◌≡◌, ◌≢◌, ◌+◌, ◌≤◌, ◌||◌, ◌&&◌, IfOk, IfSome, IsTrue, List as Seq, Some, true, OnErr};
 ghost use Rattle.zio_types.specs.declared.place.Top.{Top as SeenTop};
 ghost use Rattle.zio_masks.specs.Stages.{has, is_gang_stage};
 ghost use Rattle.zio_masks.specs.declared.stage.Stage.{Stage as SeenStage};
@@ -40,6 +40,7 @@ ghost use Rattle.zio_nodes.specs.Nodes.{
   StaysBare,
   StaysWith,
   gave_of,
+  last_moved,
   left_of,
   moved,
   nodes,
@@ -48,13 +49,12 @@ ghost use Rattle.zio_nodes.specs.RequestAts.{IsRequestAtOver, masked};
 
 use crate::node::Node;
 use crate::tree_at::TreeAt;
-use crate::turn::{Turn, new_room};
+use crate::turn::{Last, Turn, new_room};
 use std::alloc::Global;
 use zio_blkptr::Bp;
 use zio_exchange::Services;
 use zio_masks::{CLAIM, FREE, NULL, Pipeline, READ, Stage, WRITE, next, with_gang};
-use zio_staged::Move;
-use zio_stages::{Finished, Outcome, RequestNode, Seal, Start};
+use zio_stages::{Finished, Outcome, RequestNode, Start};
 use zio_types::{ChildKind, Kind, NoMemory, Top};
 
 /// A request in an attempt at a stage of its pipeline.
@@ -104,22 +104,24 @@ impl RequestAt {
         }
     }
 
-    /// Runs the stage where it ends. Where memory is refused it comes back, and what it did of the stage stays.
+    /// Runs the stage where it ends. Where memory is refused what it did of the stage stays.
     pub(crate) fn done<S: Services>(
-        self,
+        &mut self,
         alloc: Global,
         services: &mut S,
-    ) -> Result<Move<Node, Seal>, Node>
-        requires over { IsRequestAtOver (S.tops services.old) self }
-        requires stage { self.stage ≡ Stage.Done }
-        ensures moves { IfOk result (MovesWith S.made (S.tops services.old) services.old services.new
-            (Node.Request self)) }
-        ensures over { IfOk result (EachIn (IsNodeOver (S.tops services.old)) (IsTreeOver (S.tops services.old))) }
-        ensures may { IfOk result (MayGoOn IsNodeDue) }
-        ensures last { IfOk result IsLastMove }
-        ensures left { IfOk result (Lessens left_of (Node.Request self)) }
-        ensures refused { IfErr result (StaysWith S.made (S.tops services.old) services.old services.new
-            (Node.Request self)) }
+    ) -> Result<Last, NoMemory>
+        requires over { IsRequestAtOver (S.tops services.old) self.old }
+        requires stage { self.old.stage ≡ Stage.Done }
+        ensures moves { IfOk result (λ last. MovesWith S.made (S.tops services.old) services.old services.new
+            (Node.Request self.old) (last_moved (Node.Request self.new) last)) }
+        ensures over { IfOk result (λ last. EachIn (IsNodeOver (S.tops services.old)) (IsTreeOver (S.tops services.old))
+            (last_moved (Node.Request self.new) last)) }
+        ensures may { IfOk result (λ last. MayGoOn IsNodeDue (last_moved (Node.Request self.new) last)) }
+        ensures last { IfOk result (λ last. IsLastMove (last_moved (Node.Request self.new) last)) }
+        ensures left { IfOk result
+            (λ last. Lessens left_of (Node.Request self.old) (last_moved (Node.Request self.new) last)) }
+        ensures refused { OnErr result (StaysWith S.made (S.tops services.old) services.old services.new
+            (Node.Request self.old) (Node.Request self.new)) }
         ensures tops { S.tops services.new ≡ S.tops services.old }
     {
         match self.node.kind() {

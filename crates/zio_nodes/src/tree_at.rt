@@ -7,9 +7,9 @@ ghost use Rattle.zio_trace.specs.Families.{Forest};
 ghost use Rattle.zio_trace.specs.Tasks.{Attempt};
 ghost use Rattle.zio_frames.specs.Frames.{fresh_stack};
 ghost use Rattle.zio_exchange.specs.Wholes.{IsTreeOf};
-ghost use Rattle.zio_staged.specs.Stages.{EachIn, Lessens, MayGoOn};
-ghost use Rattle.zio_nodes.specs.Nodes.{IsNodeDue, IsNodeOver, IsTreeOver, MovesBare, StaysBare, left_of};
-ghost use Rattle.zio_nodes.specs.StageMoves.{IsStart};
+ghost use Rattle.zio_staged.specs.declared.staged.Move.TheVariants.{Next};
+ghost use Rattle.zio_nodes.specs.Nodes.{IsTreeOver, MovesBare, left_of};
+ghost use Rattle.zio_nodes.specs.RequestAts.{IsRequestAtOver};
 ghost use Rattle.zio_nodes.specs.TreeAts.{IsTreeAt, IsTreeAtOver};
 
 use crate::node::Node;
@@ -18,8 +18,7 @@ use std::alloc::Global;
 use zio_exchange::{Whole, WholeBack};
 use zio_masks::Stage;
 use zio_script::Failmode;
-use zio_staged::Move;
-use zio_stages::{RequestNode, Seal};
+use zio_stages::RequestNode;
 
 /// A tree of requests, of whose attempt nothing is done. It is split only once it runs, so that it can be handed out
 /// where there is no memory.
@@ -49,15 +48,15 @@ impl TreeAt {
         }
     }
 
-    /// Splits the tree into its request and its children's trees. Where memory is refused it comes back as it was.
-    pub fn run_stage(self, alloc: Global) -> Result<Move<Node, Seal>, Node>
-        ensures moves { (tops : Seq SeenTop) → IfOk result (MovesBare tops (Node.Tree self)) }
-        ensures over { (tops : Seq SeenTop) → IsTreeAtOver tops self
-            → IfOk result (EachIn (IsNodeOver tops) (IsTreeOver tops)) }
-        ensures may { IfOk result (MayGoOn IsNodeDue) }
-        ensures left { IfOk result (Lessens left_of (Node.Tree self)) }
-        ensures starts { IfOk result IsStart }
-        ensures refused { (tops : Seq SeenTop) → IfErr result (StaysBare tops (Node.Tree self)) }
+    /// Splits the tree into its children's trees and its request, which starts. Where memory is refused it comes back as
+    /// it was.
+    pub fn run_stage(self, alloc: Global) -> Result<RequestAt, TreeAt>
+        ensures moves { (tops : Seq SeenTop)
+            → IfOk result (λ at. MovesBare tops (Node.Tree self) (Next (Node.Request at))) }
+        ensures over { (tops : Seq SeenTop) → IsTreeAtOver tops self → IfOk result (IsRequestAtOver tops) }
+        ensures left { IfOk result (λ at. left_of (Node.Request at) < left_of (Node.Tree self)) }
+        ensures starts { IfOk result (λ at. at.stage ≡ Stage.Start) }
+        ensures back { IfErr result (λ at. at ≡ self) }
     {
         let TreeAt {
             whole,
@@ -66,17 +65,17 @@ impl TreeAt {
             failmode,
         } = self;
         match RequestNode::begin(alloc, whole, round, attempt, failmode) {
-            Ok(node) => Ok(Move::Next(Node::Request(RequestAt {
+            Ok(node) => Ok(RequestAt {
                 node,
                 stage: Stage::Start,
                 is_due: true,
-            }))),
-            Err(WholeBack { whole }) => Err(Node::Tree(TreeAt {
+            }),
+            Err(WholeBack { whole }) => Err(TreeAt {
                 whole,
                 round,
                 attempt,
                 failmode,
-            })),
+            }),
         }
     }
 }

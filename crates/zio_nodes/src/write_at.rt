@@ -4,26 +4,25 @@
 //! written as a gang's member is; where the request fails or goes again the places of that block go back before the
 //! attempt closes.
 
-ghost use Rattle.std.specs.Prelude.{◌≡◌, ◌≢◌, IfErr, IfOk, List as Seq, false, true, OnErr};
+ghost use Rattle.std.specs.Prelude.{◌≡◌, ◌≢◌, IfOk, List as Seq, false, true, OnErr};
 ghost use Rattle.zio_types.specs.declared.place.Top.{Top as SeenTop};
 ghost use Rattle.zio_script.specs.Requests.{kind_of};
 ghost use Rattle.zio_stages.specs.RequestKinds.{is_stored};
 ghost use Rattle.zio_staged.specs.Stages.{EachIn, Lessens, MayGoOn};
 ghost use Rattle.zio_nodes.specs.Passes.{KeepsPassAt};
 ghost use Rattle.zio_nodes.specs.StageMoves.{IsEndMove, IsLastMove, IsStageMove};
-ghost use Rattle.zio_nodes.specs.Nodes.{IsNodeDue, IsNodeOver, IsTreeOver, MovesBare, MovesWith, StaysBare, StaysWith, left_of, moved};
+ghost use Rattle.zio_nodes.specs.Nodes.{IsNodeDue, IsNodeOver, IsTreeOver, MovesBare, MovesWith, StaysBare, StaysWith, last_moved, left_of, moved};
 ghost use Rattle.zio_nodes.specs.RequestAts.{IsRequestAtOver};
 
 use crate::leaf_at::LeafAt;
 use crate::node::Node;
 use crate::part_at::PartAt;
 use crate::request_at::RequestAt;
-use crate::turn::{Turn, new_room};
+use crate::turn::{Last, Turn, new_room};
 use std::alloc::Global;
 use zio_exchange::Services;
 use zio_masks::{Stage, WRITE, next};
-use zio_staged::Move;
-use zio_stages::{Allocated, Content, DoneStep, IoNext, NodeBack, ReadyStep, Seal};
+use zio_stages::{Allocated, Content, DoneStep, IoNext, ReadyStep};
 use zio_types::{ChildKind, Kind, NoMemory, Phase, Top};
 
 impl RequestAt {
@@ -288,74 +287,66 @@ impl RequestAt {
         Turn::Next
     }
 
-    /// Waits for its members and its children, and ends with what its block came to. Where memory is refused it comes
-    /// back, and what it came to stays.
+    /// Waits for its members and its children, and ends with what its block came to. Where memory is refused what it
+    /// came to stays.
     #[inline(never)]
     pub(crate) fn write_done<S: Services>(
-        self,
+        &mut self,
         alloc: Global,
         services: &mut S,
-    ) -> Result<Move<Node, Seal>, Node>
-        requires over { IsRequestAtOver (S.tops services.old) self }
-        requires kind { kind_of self.node.waiting.request.work ≡ Kind.Write }
-        requires stage { self.stage ≡ Stage.Done }
-        ensures moves { IfOk result (MovesWith S.made (S.tops services.old) services.old services.new
-            (Node.Request self)) }
-        ensures over { IfOk result (EachIn (IsNodeOver (S.tops services.old)) (IsTreeOver (S.tops services.old))) }
-        ensures may { IfOk result (MayGoOn IsNodeDue) }
-        ensures last { IfOk result IsLastMove }
-        ensures left { IfOk result (Lessens left_of (Node.Request self)) }
-        ensures refused { IfErr result (StaysWith S.made (S.tops services.old) services.old services.new
-            (Node.Request self)) }
+    ) -> Result<Last, NoMemory>
+        requires over { IsRequestAtOver (S.tops services.old) self.old }
+        requires kind { kind_of self.old.node.waiting.request.work ≡ Kind.Write }
+        requires stage { self.old.stage ≡ Stage.Done }
+        ensures moves { IfOk result (λ last. MovesWith S.made (S.tops services.old) services.old services.new
+            (Node.Request self.old) (last_moved (Node.Request self.new) last)) }
+        ensures over { IfOk result (λ last. EachIn (IsNodeOver (S.tops services.old)) (IsTreeOver (S.tops services.old))
+            (last_moved (Node.Request self.new) last)) }
+        ensures may { IfOk result (λ last. MayGoOn IsNodeDue (last_moved (Node.Request self.new) last)) }
+        ensures last { IfOk result (λ last. IsLastMove (last_moved (Node.Request self.new) last)) }
+        ensures left { IfOk result
+            (λ last. Lessens left_of (Node.Request self.old) (last_moved (Node.Request self.new) last)) }
+        ensures refused { OnErr result (StaysWith S.made (S.tops services.old) services.old services.new
+            (Node.Request self.old) (Node.Request self.new)) }
         ensures tops { S.tops services.new ≡ S.tops services.old }
     {
         if self.node.is_stored() {
             return self.write_end(alloc, services);
         }
         if let DoneStep::Wait(kind) = self.node.done_write() {
-            return Ok(Move::Wait(Node::Request(self), kind, Phase::Done));
+            return Ok(Last::Wait(kind, Phase::Done));
         }
-        let mut at = self;
-        let ended = at.node.end_write(alloc);
-        match ended {
-            Ok(()) => at.write_end(alloc, services),
-            Err(NoMemory) => Err(Node::Request(at)),
+        match self.node.end_write(alloc) {
+            Ok(()) => self.write_end(alloc, services),
+            Err(NoMemory) => Err(NoMemory),
         }
     }
 
-    /// Gives the places of its block back where it is to lose that, and ends. Where memory is refused it comes back,
-    /// and the places that went back are told.
-    fn write_end<S: Services>(
-        self,
-        alloc: Global,
-        services: &mut S,
-    ) -> Result<Move<Node, Seal>, Node>
-        requires over { IsRequestAtOver (S.tops services.old) self }
-        requires kind { kind_of self.node.waiting.request.work ≡ Kind.Write }
-        requires stage { self.stage ≡ Stage.Done }
-        requires stored { is_stored self.node.own ≡ true }
-        ensures moves { IfOk result (MovesWith S.made (S.tops services.old) services.old services.new
-            (Node.Request self)) }
-        ensures over { IfOk result (EachIn (IsNodeOver (S.tops services.old)) (IsTreeOver (S.tops services.old))) }
-        ensures may { IfOk result (MayGoOn IsNodeDue) }
-        ensures ends { IfOk result IsEndMove }
-        ensures left { IfOk result (Lessens left_of (Node.Request self)) }
-        ensures refused { IfErr result (StaysWith S.made (S.tops services.old) services.old services.new
-            (Node.Request self)) }
+    /// Gives the places of its block back where it is to lose that, and ends. Where memory is refused the places that
+    /// went back are told.
+    fn write_end<S: Services>(&mut self, alloc: Global, services: &mut S) -> Result<Last, NoMemory>
+        requires over { IsRequestAtOver (S.tops services.old) self.old }
+        requires kind { kind_of self.old.node.waiting.request.work ≡ Kind.Write }
+        requires stage { self.old.stage ≡ Stage.Done }
+        requires stored { is_stored self.old.node.own ≡ true }
+        ensures moves { IfOk result (λ last. MovesWith S.made (S.tops services.old) services.old services.new
+            (Node.Request self.old) (last_moved (Node.Request self.new) last)) }
+        ensures over { IfOk result (λ last. EachIn (IsNodeOver (S.tops services.old)) (IsTreeOver (S.tops services.old))
+            (last_moved (Node.Request self.new) last)) }
+        ensures may { IfOk result (λ last. MayGoOn IsNodeDue (last_moved (Node.Request self.new) last)) }
+        ensures ends { IfOk result (λ last. IsEndMove (last_moved (Node.Request self.new) last)) }
+        ensures left { IfOk result
+            (λ last. Lessens left_of (Node.Request self.old) (last_moved (Node.Request self.new) last)) }
+        ensures refused { OnErr result (StaysWith S.made (S.tops services.old) services.old services.new
+            (Node.Request self.old) (Node.Request self.new)) }
         ensures tops { S.tops services.new ≡ S.tops services.old }
     {
-        let mut at = self;
-        let Ok(()) = at.node.give_block_back(alloc, services) else {
-            return Err(Node::Request(at));
+        let Ok(()) = self.node.give_block_back(alloc, services) else {
+            return Err(NoMemory);
         };
-        let RequestAt { node, is_due, .. } = at;
-        match node.close_write(alloc) {
-            Ok(outcome) => Ok(Move::End(outcome)),
-            Err(NodeBack { node }) => Err(Node::Request(RequestAt {
-                node,
-                stage: Stage::Done,
-                is_due,
-            })),
+        match self.node.close_write(alloc) {
+            Ok(outcome) => Ok(Last::End(outcome)),
+            Err(NoMemory) => Err(NoMemory),
         }
     }
 }

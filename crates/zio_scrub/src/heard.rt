@@ -13,7 +13,8 @@ use crate::pieces::Piece;
 use std::alloc::Global;
 use zio_disks::Stop;
 use zio_groups::Answered;
-use zio_types::{Bytes, Errno};
+use zio_shared::Shared;
+use zio_types::Errno;
 
 /// How the read of a copy ended.
 #[derive(Clone, Copy, Debug, PartialEq, Eq)]
@@ -26,16 +27,16 @@ pub(crate) enum Mark {
 }
 
 /// What the bad copies of a piece are written with.
-#[derive(Debug, Drop)]
+#[derive(Drop)]
 pub(crate) struct Source {
     /// The number of the copy that gave the bytes.
     pub(crate) copy: usize,
-    pub(crate) bytes: Bytes,
+    pub(crate) bytes: Shared,
 }
 
 /// The marks of all copies, and what is kept of each piece: the bytes of the least good copy so far, until all its
 /// copies are good.
-#[derive(Debug, Drop)]
+#[derive(Drop)]
 pub(crate) struct Heard {
     pub(crate) marks: Vec<Mark>,
     pub(crate) sources: Vec<Option<Source>>,
@@ -106,7 +107,7 @@ impl Heard {
 }
 
 /// The bytes of a copy, if they are good.
-fn good_bytes(piece: &Piece, error: Option<Errno>, bytes: Bytes) -> Option<Bytes>
+fn good_bytes(piece: &Piece, error: Option<Errno>, bytes: Shared) -> Option<Shared>
     requires valid { IsTrue (valid piece.now.pointer) }
     requires whole { error ≡ None → (seen piece.now).size ≤ length bytes }
     ensures good { result ≡ found_good (seen piece.now) (found_with error (take (seen piece.now).size bytes)) }
@@ -115,7 +116,7 @@ fn good_bytes(piece: &Piece, error: Option<Errno>, bytes: Bytes) -> Option<Bytes
     if error.is_some() {
         return None;
     }
-    let bytes = cut_to(bytes, piece.size() as usize);
+    let bytes = bytes.front(piece.size() as usize);
     if piece.is_good(bytes.as_slice()) {
         Some(bytes)
     } else {
@@ -145,13 +146,4 @@ fn all_good(marks: &[Mark]) -> bool
         return true;
     };
     *mark == Mark::Good && all_good(others)
-}
-
-/// The first so many bytes, as many as there are.
-fn cut_to(bytes: Bytes, len: usize) -> Bytes
-    ensures { result ≡ take len bytes }
-{
-    let mut items = bytes.into_vec();
-    items.truncate(len);
-    Bytes::from_vec(items)
 }

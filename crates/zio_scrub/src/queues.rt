@@ -13,7 +13,8 @@ use std::alloc::Global;
 use zio_disks::{Setting, Stop};
 use zio_groups::{Answered, LeafQueue};
 use zio_outside::Disk;
-use zio_types::{Bytes, List};
+use zio_shared::Shared;
+use zio_types::List;
 use zio_vqueue::Op;
 
 /// A queue for each leaf, by number.
@@ -42,7 +43,7 @@ impl Queues {
     }
 
     /// The operation waits at the leaf, with the bytes of a write. No other waits there under its ticket.
-    pub(crate) fn put(&mut self, leaf: u32, op: Op, bytes: Bytes) -> Result<(), Stop>
+    pub(crate) fn put(&mut self, leaf: u32, op: Op, bytes: Shared) -> Result<(), Stop>
         requires there { leaf < length self.old.leaves.items }
         requires fits { FitsDevice op }
         requires room { length bytes ≤ op.len }

@@ -22,6 +22,7 @@ use std::alloc::Global;
 use zio_disks::{Setting, Spot, Stop};
 use zio_groups::Answered;
 use zio_outside::Disk;
+use zio_shared::Shared;
 use zio_types::{Bytes, Flags, List, Prio};
 use zio_vqueue::Op;
 
@@ -77,7 +78,7 @@ fn queued(alloc: Global, copies: &[CopyAt], leaves: u32) -> Result<Queues, Stop>
     let mut queues = Queues::new(alloc, leaves)?;
     for (number, copy) in copies.iter().enumerate() {
         let op = read_op(number as u64, &copy.spot);
-        queues.put(copy.spot.leaf, op, Bytes::new(alloc))?;
+        queues.put(copy.spot.leaf, op, Shared::alone(Bytes::new(alloc)))?;
     }
     Ok(queues)
 }
@@ -237,7 +238,7 @@ fn add_repairs(
     alloc: Global,
     marks: &[Mark],
     copies: &[CopyAt],
-    bytes: Bytes,
+    bytes: Shared,
     repairs: &mut List<Repair>,
 ) -> Result<(), Stop>
     ensures ok { OnOk result (repairs.new ≡ repairs.old ++ repairs_with (Some bytes) (bad_marked marks.now copies.now)) }
@@ -255,7 +256,10 @@ fn add_repairs(
     if !has_bad(marks) {
         return add_repair(repairs, &copy.spot, bytes);
     }
-    let same = copied(alloc, bytes.as_slice())?;
+    let mut bytes = bytes;
+    let Ok(same) = bytes.share(alloc) else {
+        return Err(Stop::Memory);
+    };
     add_repair(repairs, &copy.spot, same)?;
     add_repairs(alloc, marks, copies, bytes, repairs)
 }
@@ -271,18 +275,7 @@ fn has_bad(marks: &[Mark]) -> bool
     false
 }
 
-fn copied(alloc: Global, bytes: &[u8]) -> Result<Bytes, Stop>
-    ensures ok { IfOk result (λ copy. copy ≡ bytes.now) }
-    ensures err { OnErr result (result ≡ Err Stop.Memory) }
-{
-    let mut copy = Bytes::new(alloc);
-    match copy.extend_from_slice(bytes) {
-        Ok(()) => Ok(copy),
-        Err(_) => Err(Stop::Memory),
-    }
-}
-
-fn add_repair(repairs: &mut List<Repair>, spot: &Spot, bytes: Bytes) -> Result<(), Stop>
+fn add_repair(repairs: &mut List<Repair>, spot: &Spot, bytes: Shared) -> Result<(), Stop>
     ensures ok { OnOk result (repairs.new ≡ repairs.old ++ record { spot = spot.now; bytes = bytes } ∷ []) }
     ensures err { OnErr result (result ≡ Err Stop.Memory) }
 {

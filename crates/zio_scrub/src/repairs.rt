@@ -15,14 +15,15 @@ use std::alloc::Global;
 use zio_disks::{Setting, Spot, Stop};
 use zio_groups::Answered;
 use zio_outside::Disk;
-use zio_types::{Bytes, Errno, Flags, List, Prio};
+use zio_shared::Shared;
+use zio_types::{Errno, Flags, List, Prio};
 use zio_vqueue::Op;
 
 /// Bytes that a copy is to be written with.
-#[derive(Debug, Drop)]
+#[derive(Drop)]
 pub(crate) struct Repair {
     pub spot: Spot,
-    pub bytes: Bytes,
+    pub bytes: Shared,
 }
 
 /// How many copies were written, and how many writes failed.

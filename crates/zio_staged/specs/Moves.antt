@@ -11,4 +11,4 @@ moved node (Waiting kind phase) = Wait node kind phase
 moved node (Grown child kind) = Grow node child kind
 moved node (Handed op leaf bytes) = Leaf node op leaf bytes
 moved node (Told pointer) = Ready node pointer
-moved node (Ended outcome) = End outcome
+moved node (Ended outcome) = End outcome.value

@@ -22,6 +22,7 @@ use std::alloc::Global;
 use zio_blkptr::Bp;
 use zio_exchange::{Finished, Outcome, Services, Whole, WholeBack};
 use zio_script::Failmode;
+use zio_shared::Shared;
 use zio_types::{Bytes, ChildKind, Errno, NoMemory, Phase, Top};
 use zio_vqueue::Op;
 
@@ -35,11 +36,12 @@ pub enum Turn<N, S> {
     /// This node is its new child.
     Grow(N, ChildKind),
     /// An operation for the leaf of this number, with the bytes of a write.
-    Leaf(Op, u32, Bytes),
+    Leaf(Op, u32, Shared),
     /// Its value will have this pointer, or none.
     Ready(Option<Bp>),
-    /// It ended, and what is in its place may only be dropped.
-    End(Outcome<S>),
+    /// It ended with this, and what is in its place may only be dropped. An outcome is large, and a turn is handed on at
+    /// every stage, so it is in a box.
+    End(Box<Outcome<S>>),
 }
 
 /// What a stage of a node comes to, with the node as the stage left it: contracts speak of a turn so, and a stage that
@@ -53,7 +55,7 @@ pub enum Move<N, S> {
     /// The second node is its new child.
     Grow(N, N, ChildKind),
     /// An operation for the leaf of this number, with the bytes of a write.
-    Leaf(N, Op, u32, Bytes),
+    Leaf(N, Op, u32, Shared),
     /// Its value will have this pointer, or none.
     Ready(N, Option<Bp>),
     End(Outcome<S>),

@@ -1,6 +1,6 @@
 -- A read, a free or a claim whose own work came to something: it is so far then, and closes.
-use Rattle.std.proofs.Common.{◌≡◌, List, [], ◌∷◌, length, Bool, true, false, ◌&&◌, Option, Some, None, refl, subst}
-use Rattle.std.specs.List.{AllByRecursion, list_all}
+use Rattle.std.proofs.Common.{◌≡◌, List, length, Option, Some, None, subst}
+use Rattle.std.specs.List.{AllByRecursion}
 use Rattle.zio_types.specs.declared.error.Errno.{Errno}
 use Rattle.zio_blkptr.specs.declared.pointer.Bp.{Bp}
 use Rattle.zio_script.specs.declared.script.Work.{Work}
@@ -10,24 +10,20 @@ use Rattle.zio_gang.specs.Attempts.{Terms}
 use Rattle.zio_trace.specs.Plans.{plan_own}
 use Rattle.zio_trace.specs.Programs.{Ends}
 use Rattle.zio_trace.specs.Tasks.{OwnGot}
-use Rattle.zio_children.specs.RequestKids.{has_ended, has_told, is_ended, is_told, kids_by, pointers_of}
-use Rattle.zio_children.specs.declared.kids.Kid.{Kid}
-use Rattle.zio_children.specs.declared.kids.KidState.{KidState}
-use Rattle.zio_children.specs.declared.kids.KidState.TheVariants.{Due as KidDue, Out, Told, Ended}
+use Rattle.zio_children.specs.RequestKids.{pointers_of}
 use Rattle.zio_frames.specs.Frames.{Stack}
 use Rattle.zio_frames.specs.Slots.{AllHeard, left_behind_slots}
 use Rattle.zio_exchange.specs.Outcomes.{IsNoAttemptIn, places_in}
 use Rattle.zio_exchange.specs.Waits.{pending_of}
-use Rattle.zio_stages.specs.ClosedRequests.{Closed}
 use Rattle.zio_stages.specs.OwnParts.{IsNoWrite}
 use Rattle.zio_stages.specs.StoredBlocks.{block_places}
-use Rattle.zio_stages.specs.RequestNodes.{Closes, IsOwnOf, IsRequestNode, OwnEnds, front_by, own_got}
+use Rattle.zio_stages.specs.RequestNodes.{IsOwnOf, IsRequestNode, OwnEnds, front_by, own_got}
 use Rattle.zio_stages.specs.RequestOwns.{IsFoundOwn, IsNoneAfter, MakesBlock}
 use Rattle.zio_stages.specs.declared.request_node.Own.{Own}
-use Rattle.zio_stages.specs.declared.request_node.Own.TheVariants.{Found, Over}
+use Rattle.zio_stages.specs.declared.request_node.Own.TheVariants.{Found}
 use Rattle.zio_stages.specs.declared.request_node.OwnFound.{OwnFound}
 use Rattle.zio_stages.specs.declared.request_node.RequestNode.{RequestNode}
-use Rattle.zio_stages.proofs.RequestStoredLemmas.{shown_still, with_own, with_own_at}
+use Rattle.zio_stages.proofs.RequestStoredLemmas.{with_own, with_own_at}
 
 -- ---- it came to something
 
@@ -56,28 +52,8 @@ found_in t r st own h is = subst (λ (o : Own). IsOwnOf t r r.kids.kids (front_b
 
 -- ---- it closes
 
-ended_state : (s : KidState) → has_ended s ≡ true → has_told s ≡ true
-ended_state KidDue e = absurd (cc)
-ended_state Out e = absurd (cc)
-ended_state (Told pointer) e = refl
-ended_state (Ended bits error pointer) e = refl
-
-both_true : (a b : Bool) → a && b ≡ true → (a ≡ true) × (b ≡ true)
-both_true true b e = (refl, e)
-both_true false b e = absurd (cc)
-
-pub ended_told : (kids : List Kid) → list_all is_ended kids ≡ true → list_all is_told kids ≡ true
-ended_told [] e = refl
-ended_told (k ∷ kids) e =
-    let both = both_true (has_ended k.state) (list_all is_ended kids) e in
-    λ i. ended_state k.state both.0 i && ended_told kids both.1 i
-
-pub closes_found : (t : Terms) (r : RequestNode) (st : Stack) (own : OwnFound) (closed : Closed) (h : IsRequestNode t r st) → r.own ≡ Found own → list_all is_ended r.kids.kids.kids ≡ true
-    → ((g : IsRequestNode t (with_own r Over) st) → OwnEnds t (with_own r Over) st (own_got own) g → Closes t (with_own r Over) st g closed)
-    → Closes t r st h closed
-closes_found t r st own closed h is ended closes =
+-- its own work comes to that in the attempt
+pub found_ends : (t : Terms) (r : RequestNode) (st : Stack) (own : OwnFound) (h : IsRequestNode t r st) → r.own ≡ Found own → OwnEnds t r st (own_got own) h
+found_ends t r st own h is =
     let f = found_in t r st own h is in
-    let g : IsRequestNode t (with_own r Over) st =
-    with_own_at t r st Over h (record { told = record { all = f.all; told = ended_told r.kids.kids.kids ended }; alone = f.alone; heard = f.heard }) in
-    let c : Closes t (with_own r Over) st g closed = closes g (record { alone = f.alone; heard = f.heard; value = f.value (pointers_of r.kids.kids) }) in
-    record { one = c.one; value = c.value; shows = shown_still closed r Over (kids_by h.kid_slots).ended c.one c.shows }
+    record { alone = f.alone; heard = f.heard; value = f.value (pointers_of r.kids.kids) }

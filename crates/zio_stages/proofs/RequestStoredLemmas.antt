@@ -1,15 +1,14 @@
 -- A write whose block was written: its places go back, and it closes.
 use Rattle.std.proofs.Common.{◌≡◌, List, refl, sym, ap, ◌∙◌, subst}
-use Rattle.zio_gang.specs.Attempts.{Ended, Terms}
+use Rattle.zio_gang.specs.Attempts.{Terms}
 use Rattle.zio_trace.specs.Programs.{Ends}
-use Rattle.zio_trace.specs.Tasks.{One, Task}
-use Rattle.zio_children.specs.RequestKids.{KidsUnderWay, kids_by, pointers_of}
+use Rattle.zio_trace.specs.Tasks.{Task}
+use Rattle.zio_children.specs.RequestKids.{KidsUnderWay, pointers_of}
 use Rattle.zio_frames.specs.Frames.{Stack}
 use Rattle.zio_frames.specs.Slots.{Slot}
 use Rattle.zio_exchange.specs.Waits.{pending_of}
-use Rattle.zio_stages.specs.ClosedRequests.{Again, Closed, Finished}
 use Rattle.zio_stages.specs.PartWorks.{Front}
-use Rattle.zio_stages.specs.RequestNodes.{Closes, IsClosedAs, IsOwnOf, IsRequestNode, OwnEnds, front_by, own_got}
+use Rattle.zio_stages.specs.RequestNodes.{IsOwnOf, IsRequestNode, OwnEnds, front_by, own_got}
 use Rattle.zio_stages.specs.RequestStoreds.{IsStoredWith}
 use Rattle.zio_stages.specs.StoredBlocks.{IsStoredOwn}
 use Rattle.zio_stages.specs.declared.request_node.Own.{Own}
@@ -96,32 +95,14 @@ stored_still t r st b now is same h =
 
 -- ---- it closes
 
--- what its own work comes to in the attempt
-own_ends : (t : Terms) (r : RequestNode) (st : Stack) (b : StoredBlock) (h : IsRequestNode t r st)
-    → IsStoredOwn t (own_got b.own) r.attempt (pending_of r.waiting) r.kids.kids h.own_asked h.own_slots st → OwnEnds t r st (own_got b.own) h
-own_ends t r st b h own = record {
-  alone = own.alone;
-  heard = own.heard;
-  value = own_is_stored t r.attempt (pending_of r.waiting) (pointers_of r.kids.kids) own.part h.own_slots own.left own.block own.value
-      ∙ ap Ends (sym own.came_to);
-}
-
--- it is over, where what it came to was taken out
-abbrev over_at : (t : Terms) (r : RequestNode) (st : Stack) (b : StoredBlock) (h : IsRequestNode t r st)
-    → IsStoredOwn t (own_got b.own) r.attempt (pending_of r.waiting) r.kids.kids h.own_asked h.own_slots st → IsRequestNode t (with_own r Over) st
-over_at t r st b h own = with_own_at t r st Over h (record { told = own.told; alone = own.alone; heard = own.heard })
-
-pub shown_still : (closed : Closed) (r : RequestNode) (own : Own) (ended : List Ended) (one : One) → IsClosedAs closed (with_own r own) ended one
-    → IsClosedAs closed r ended one
-shown_still (Finished waiting error found) r own ended one h = h
-shown_still (Again bits whole found) r own ended one h = h
-
-pub closes_stored : (t : Terms) (r : RequestNode) (st : Stack) (b : StoredBlock) (closed : Closed) (h : IsRequestNode t r st) → r.own ≡ Stored b
-    → ((g : IsRequestNode t (with_own r Over) st) → OwnEnds t (with_own r Over) st (own_got b.own) g → Closes t (with_own r Over) st g closed)
-    → Closes t r st h closed
-closes_stored t r st b closed h is closes =
+-- its own work comes to that in the attempt
+pub stored_ends : (t : Terms) (r : RequestNode) (st : Stack) (b : StoredBlock) (h : IsRequestNode t r st) → r.own ≡ Stored b
+    → OwnEnds t r st (own_got b.own) h
+stored_ends t r st b h is =
     let own = stored_in t r st b h is in
-    let g : IsRequestNode t (with_own r Over) st = over_at t r st b h own in
-    let e : OwnEnds t r st (own_got b.own) h = own_ends t r st b h own in
-    let c : Closes t (with_own r Over) st g closed = closes g (record { alone = e.alone; heard = e.heard; value = e.value }) in
-    record { one = c.one; value = c.value; shows = shown_still closed r Over (kids_by h.kid_slots).ended c.one c.shows }
+    record {
+      alone = own.alone;
+      heard = own.heard;
+      value = own_is_stored t r.attempt (pending_of r.waiting) (pointers_of r.kids.kids) own.part h.own_slots own.left own.block own.value
+          ∙ ap Ends (sym own.came_to);
+    }

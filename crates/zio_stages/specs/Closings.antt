@@ -1,15 +1,19 @@
 -- What a request's node ends with where its attempt closes.
-use Rattle.std.specs.Prelude.{◌≡◌, ℕ}
+use Rattle.std.specs.Prelude.{◌≡◌, ℕ, List}
+use Rattle.zio_script.specs.declared.script.Failmode.{Failmode}
 use Rattle.zio_gang.specs.Attempts.{Terms, tree_unless}
-use Rattle.zio_frames.specs.Frames.{Stack}
+use Rattle.zio_frames.specs.Frames.{Child, Stack}
 use Rattle.zio_stages.specs.ClosedRequests.{Again, Closed, Finished}
 use Rattle.zio_stages.specs.KidLists.{LeavesList}
+use Rattle.zio_stages.specs.KidTrees.{KidsHeld}
 use Rattle.zio_stages.specs.Labels.{closed_label}
 use Rattle.zio_stages.specs.OwnFounds.{own_got}
 use Rattle.zio_stages.specs.RequestNodes.{Closes, IsRequestNode, OwnEnds}
 use Rattle.zio_stages.specs.RequestStoreds.{is_well, keeps_block, own_in}
 use Rattle.zio_stages.specs.Sealed.{Outcome}
 use Rattle.zio_exchange.specs.declared.outcome.Outcome.TheVariants.{Again as GoesAgain, Finished as HasFinished}
+use Rattle.zio_exchange.specs.declared.waiting.UnfinishedRequest.{UnfinishedRequest}
+use Rattle.zio_stages.specs.declared.request_node.Own.{Own}
 use Rattle.zio_stages.specs.declared.request_node.OwnFound.{OwnFound}
 use Rattle.zio_stages.specs.declared.request_node.RequestNode.{RequestNode}
 
@@ -24,6 +28,18 @@ outcome_of label (Finished waiting error own) = HasFinished (record {
   pointer = own.pointer;
 })
 outcome_of label (Again bits whole own) = GoesAgain whole bits own.pointer
+
+-- a request's node over these children, however far its own work is
+abbrev pub node_over : UnfinishedRequest → KidsHeld → Own → List Child → ℕ → ℕ → Failmode → RequestNode
+node_over waiting kids own family round attempt failmode = record {
+  waiting = waiting;
+  kids = kids;
+  own = own;
+  family = family;
+  round = round;
+  attempt = attempt;
+  failmode = failmode;
+}
 
 -- The node's attempt closed, where its own work came to this: it ends with this outcome, under its own label, and finished
 -- without error exactly where its own work and its children did.

@@ -21,9 +21,11 @@ use crate::request_name::request_label;
 use crate::split::{rejoin, split};
 use std::alloc::Global;
 use std::marker::Model;
+use std::mem::replace;
 use zio_blkptr::Bp;
 use zio_children::{KeptChild, KidStep, Kids};
 use zio_exchange::{UnfinishedRequest, Whole, WholeBack};
+use zio_script::{Request, Work};
 use zio_types::{Bits, Errno, List, NoMemory, ReqNo};
 
 /// The children of a request in an attempt: those that haven't finished, with the trees that are to be handed out and
@@ -46,13 +48,6 @@ impl Model for RequestKids {
     ghost view = { λ k. record { kids = k.kids; due = reverse k.due.items; again = k.again.items } };
 
     ghost invariant = { λ k. AreHeld (record { kids = k.kids; due = reverse k.due.items; again = k.again.items }) };
-}
-
-/// There is no memory for the tree that goes again.
-#[derive(Debug, Drop)]
-pub struct AgainBack {
-    pub kids: RequestKids,
-    pub waiting: UnfinishedRequest,
 }
 
 impl RequestKids {
@@ -177,31 +172,49 @@ impl RequestKids {
         self.again[n] = Some(whole);
     }
 
-    /// The request with its children that finished, over what is left of those that go again: the tree that goes again.
-    /// Where memory is refused both come back.
-    pub fn again(self, alloc: Global, mut waiting: UnfinishedRequest) -> Result<Whole, AgainBack>
-        requires { list_all is_ended self.kids.kids ≡ true }
+    /// The request with its children that finished, over what is left of those that go again: the tree that goes again,
+    /// to which both go over. Where memory is refused both are as before.
+    #[inline(never)]
+    pub fn again(
+        &mut self,
+        alloc: Global,
+        waiting: &mut UnfinishedRequest,
+    ) -> Result<Whole, NoMemory>
+        requires { list_all is_ended self.old.kids.kids ≡ true }
         ensures tree { IfOk result (λ tree. (attempt : ℕ) (forest : Forest) (asked : List Task) (slots : List Slot)
             (one : Attempted) →
-            IsKids self attempt forest asked slots → one.again ≡ with_kept (pending_of waiting) (finished_in self.kids)
-            ∷ [] →
+            IsKids self.old attempt forest asked slots →
+            one.again ≡ with_kept (pending_of waiting.old) (finished_in self.old.kids) ∷ [] →
             IsLeft tree (one_of (kids_by slots) one)) }
-        ensures number { IfOk result (λ tree. root_number tree ≡ Some waiting.request.number) }
-        ensures list { IfOk result (λ tree. IsLeftList tree waiting self) }
-        ensures back { IfErr result (λ e. (e.kids ≡ self) × (e.waiting ≡ waiting)) }
+        ensures number { IfOk result (λ tree. root_number tree ≡ Some waiting.old.request.number) }
+        ensures list { IfOk result (λ tree. IsLeftList tree waiting.old self.old) }
+        ensures same { OnErr result (self.new ≡ self.old) }
+        ensures waiting { OnErr result (waiting.new ≡ waiting.old) }
     {
-        let begun = begin_again(alloc, &self.kids, &self.again);
-        match begun {
-            Err(NoMemory) => Err(AgainBack {
-                kids: self,
-                waiting,
-            }),
-            Ok((all, kept)) => {
-                let RequestKids { again, .. } = self;
-                waiting.kept = kept;
-                Ok(grown_again(all, again, waiting))
-            }
-        }
+        let (all, kept) = begin_again(alloc, &self.kids, &self.again)?;
+        self.kids = Kids::new(alloc, &[], List::new(alloc))?;
+        self.due = Vec::new(alloc);
+        let again = replace(&mut self.again, Vec::new(alloc));
+        let mut root = replace(waiting, no_request(alloc));
+        root.kept = kept;
+        Ok(grown_again(all, again, root))
+    }
+}
+
+/// What stands in place of a request that went over to another tree.
+fn no_request(alloc: Global) -> UnfinishedRequest {
+    UnfinishedRequest {
+        request: Request {
+            number: 0,
+            work: Work::Null,
+            under: None,
+            canfail: false,
+        },
+        birth: 0,
+        block: None,
+        kept: List::new(alloc),
+        unfinished: 0,
+        below: 0,
     }
 }
 

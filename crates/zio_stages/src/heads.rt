@@ -1,6 +1,6 @@
 // The walk over headers from a pointer down, as a node's part of the work.
 
-ghost use Rattle.std.specs.Prelude.{◌≡◌, ◌++◌, ◌+◌, ◌-◌, ◌∷◌, ◌<◌, ◌≤◌, [], IfErr, IfOk, IsTrue, List as Seq, None, OnErr, OnOk, Option, Some, bytes_eq, false, filter, length, not, slice_get, slice_set, true};
+ghost use Rattle.std.specs.Prelude.{◌≡◌, ◌++◌, ◌+◌, ◌-◌, ◌∷◌, ◌<◌, ◌≤◌, [], IfOk, IsTrue, List as Seq, None, OnErr, OnOk, Option, Some, bytes_eq, false, filter, length, not, slice_get, slice_set, true};
 ghost use Rattle.zio_blkptr.specs.Pointers.{valid};
 ghost use Rattle.zio_gang.specs.declared.tree.Head.{Head};
 ghost use Rattle.zio_gang.specs.Attempts.{Terms};
@@ -14,7 +14,9 @@ ghost use Rattle.zio_parts.specs.HeadWalks.{ShowsWalk, fresh_walk, header_by, le
 ghost use Rattle.zio_parts.specs.declared.head_walk.Header.{Header};
 ghost use Rattle.zio_stages.specs.HeadsWorks.{HandsBelow, HandsHead, IsHeadsWork, IsReadFor, IsReadOf, claim_error, is_under};
 
+use crate::at_once::root;
 use std::alloc::Global;
+use std::mem::replace;
 use zio_blkptr::Bp;
 use zio_gang::Head;
 use zio_parts::{HeadWalk, MemberWalk, WalkStep, Walked};
@@ -180,18 +182,21 @@ impl HeadsWork {
         self.walk.hear_member(n - 1, walked);
     }
 
-    /// What the walk left, where it ended. Where memory is refused it comes back.
-    pub fn into_walked(self, alloc: Global) -> Result<Walked, HeadsWork>
-        requires { ShowsWalk self.walk WalkStep.End }
-        ensures walked { IfOk result (λ walked. (t : Terms) (x : Frame) → IsHeadsWork t self x → AllHeard x.slots
+    /// What the walk left, where it ended, which it holds no longer. Where memory is refused it is as before.
+    pub fn take_walked(&mut self, alloc: Global) -> Result<Walked, NoMemory>
+        requires { ShowsWalk self.old.walk WalkStep.End }
+        ensures walked { IfOk result (λ walked. (t : Terms) (x : Frame) → IsHeadsWork t self.old x → AllHeard x.slots
             × (left_of t x ≡ Ends (WalkedBy walked))) }
-        ensures left { IfOk result (λ walked. walked ≡ walk_left self.walk) }
-        ensures back { IfErr result (λ work. work ≡ self) }
+        ensures left { IfOk result (λ walked. walked ≡ walk_left self.old.walk) }
+        ensures same { OnErr result (self.new ≡ self.old) }
     {
-        let HeadsWork { walk, heads } = self;
-        match walk.into_walked(alloc) {
+        let begun = HeadWalk::kept(alloc, 0, root(), self.walk.pointer());
+        match replace(&mut self.walk, begun).into_walked(alloc) {
             Ok(walked) => Ok(walked),
-            Err(walk) => Err(HeadsWork { walk, heads }),
+            Err(walk) => {
+                self.walk = walk;
+                Err(NoMemory)
+            }
         }
     }
 }

@@ -3,7 +3,7 @@
 //! A header is read by a child, and each member that it names is walked by another, which does the same one level down.
 //! So the headers of a level are read beside each other, and no node keeps more than its own.
 
-ghost use Rattle.std.specs.Prelude.{◌≡◌, ◌+◌, ◌<◌, ◌≤◌, IfErr, IfOk, IsTrue, List as Seq, Ok, OnErr, OnOk, Option, Some, false, length, slice_get};
+ghost use Rattle.std.specs.Prelude.{◌≡◌, ◌+◌, ◌<◌, ◌≤◌, IfOk, IsTrue, List as Seq, Ok, OnErr, OnOk, Option, Some, false, length, slice_get};
 ghost use Rattle.std.specs.List.{AllByRecursion};
 ghost use Rattle.zio_types.specs.declared.place.Top.{Top as SeenTop};
 ghost use Rattle.zio_types.specs.declared.request.ChildKind.TheVariants.{Gang};
@@ -76,12 +76,6 @@ pub enum WalkStage {
     Wait,
     /// The walk has ended.
     On,
-}
-
-/// There is no memory for what the walk left.
-#[derive(Drop)]
-pub struct HeadsBack {
-    pub node: HeadsNode,
 }
 
 impl HeadsNode {
@@ -302,31 +296,14 @@ impl HeadsNode {
         self.family.end(child);
     }
 
-    /// What the walk left, where it ended. Where memory is refused the node comes back.
-    pub fn into_walked(self, alloc: Global) -> Result<Walked, HeadsBack>
-        requires { ShowsWalk self.work.walk WalkStep.End }
-        ensures walked { IfOk result (λ walked. (t : Terms) (st : Stack) → IsHeadsNode t self st →
+    /// What the walk left, where it ended, which it holds no longer. Where memory is refused the node is as before.
+    pub fn take_walked(&mut self, alloc: Global) -> Result<Walked, NoMemory>
+        requires { ShowsWalk self.old.work.walk WalkStep.End }
+        ensures walked { IfOk result (λ walked. (t : Terms) (st : Stack) → IsHeadsNode t self.old st →
             IsEnded t st (WalkedBy walked) × ClaimsInside t st.outer.op walked) }
-        ensures back { IfErr result (λ e. e.node ≡ self) }
+        ensures same { OnErr result (self.new ≡ self.old) }
     {
-        let HeadsNode {
-            work,
-            family,
-            name,
-            prio,
-        } = self;
-        match work.into_walked(alloc) {
-            Ok(walked) => Ok(walked),
-            Err(work) => {
-                let node = HeadsNode {
-                    work,
-                    family,
-                    name,
-                    prio,
-                };
-                Err(HeadsBack { node })
-            }
-        }
+        self.work.take_walked(alloc)
     }
 }
 

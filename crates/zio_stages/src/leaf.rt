@@ -18,6 +18,7 @@ use std::mem::replace;
 use zio_blkptr::SumKind;
 use zio_exchange::{Summed, sum_of_read};
 use zio_parts::Target;
+use zio_shared::Shared;
 use zio_types::{Bytes, Errno, Flags, List, Prio, ReqNo, SECTOR_SIZE};
 use zio_vqueue::Op;
 
@@ -34,7 +35,7 @@ enum Act {
 #[derive(Drop)]
 enum Progress {
     /// A write has its bytes, and a read none.
-    Due(Bytes),
+    Due(Shared),
     Out,
     /// The bytes that were read, none of a write, or an error.
     Answered(Result<Summed, Errno>),
@@ -76,7 +77,7 @@ impl LeafWork {
             op: op_on(target, false, retry, prio, false),
             act: Act::Read { len },
             sum,
-            stage: Progress::Due(List::new(alloc)),
+            stage: Progress::Due(Shared::alone(List::new(alloc))),
         }
     }
 
@@ -87,7 +88,7 @@ impl LeafWork {
         retry: bool,
         prio: Prio,
         repair: bool,
-        bytes: Bytes,
+        bytes: Shared,
     ) -> LeafWork
         requires { IsSpanned target.now.place }
         ensures fresh { (t : Terms)
@@ -152,7 +153,7 @@ impl LeafWork {
 
     /// It goes to its leaf: the operation, whose ticket is 0, the leaf's number, and the bytes of a write, none of a
     /// read.
-    pub fn hand_out(&mut self) -> (Op, u32, Bytes)
+    pub fn hand_out(&mut self) -> (Op, u32, Shared)
         requires { IsDue self.old }
         ensures related { (t : Terms) (x : Frame) → IsLeafWork t self.old x → IsLeafWork t self.new x }
         ensures handed { (t : Terms) (x : Frame) (act : LeafOp) → IsLeafWork t self.old x → x.op ≡ Leaf act →
@@ -220,14 +221,14 @@ impl LeafWork {
         }
     }
 
-    /// What it was answered: the bytes that were read, good or not; of a write no bytes; or the error.
-    pub fn into_found(self) -> Result<Summed, Errno>
-        requires { IsAnswered self }
-        ensures { (t : Terms) (x : Frame) (a : Answer) → IsLeafWork t self x → x.slots ≡ Heard (Got a) ∷ [] →
+    /// What it was answered, which it holds no longer: the bytes that were read, good or not; of a write no bytes; or
+    /// the error.
+    pub fn take_found(&mut self) -> Result<Summed, Errno>
+        requires { IsAnswered self.old }
+        ensures { (t : Terms) (x : Frame) (a : Answer) → IsLeafWork t self.old x → x.slots ≡ Heard (Got a) ∷ [] →
             result ≡ a }
     {
-        let LeafWork { stage, .. } = self;
-        let Progress::Answered(found) = stage else {
+        let Progress::Answered(found) = replace(&mut self.stage, Progress::Out) else {
             unreachable!()
         };
         found

@@ -50,13 +50,13 @@ mod tree;
 mod write_io;
 mod write_laws;
 
-pub use attempted::{AgainBack, RequestKids};
+pub use attempted::RequestKids;
 pub use check::Check;
 pub use closing::{Finished, Outcome, Seal};
 pub use copies_node::CopiesNode;
 pub use family::{Family, Layer, Seat};
 pub use heads::{HeadRead, HeadsWork};
-pub use heads_node::{HeadsBack, HeadsNode, WalkStage};
+pub use heads_node::{HeadsNode, WalkStage};
 pub use io_laws::reads_and_writes_of_copies_ask_leaves;
 pub use kid_laws::{logical_children_are_attempts, other_children_show_own_work};
 pub use leaf::LeafWork;
@@ -66,12 +66,12 @@ pub use own_laws::{
     bodies_of_a_walk_lie_on_the_tops, own_work_stands_behind_children,
     own_work_stays_while_children_go_on, what_is_no_write_has_no_pointer,
 };
-pub use part::{OwnBack, PartOwn};
-pub use part_node::{Allocated, PartNode, PartNodeBack};
+pub use part::PartOwn;
+pub use part_node::{Allocated, PartNode};
 pub use pointer_laws::reads_tell_no_pointer;
 pub use read_io::ReadIo;
 pub use request_name::request_label;
-pub use request_node::{DoneStep, NodeBack, ReadyStep, RequestNode, Start};
+pub use request_node::{DoneStep, ReadyStep, RequestNode, Start};
 pub use request_read::{BodyStage, ReadDone};
 pub use request_write::{Block, Content};
 pub use tree::TreeWork;

@@ -33,6 +33,7 @@ use crate::read_io::ReadIo;
 use crate::write_io::{IoStep, WriteIo};
 use std::alloc::Global;
 use zio_exchange::Summed;
+use zio_shared::Shared;
 use zio_types::{ChildKind, Errno, NoMemory, Top};
 
 /// What a read or a write is to do once nothing more of it can be handed out now.
@@ -150,7 +151,7 @@ pub(crate) fn hear_read(
 /// Hands the write's next operation to a child, where one is due now. Where memory is refused all is as before.
 pub(crate) fn start_write(
     io: &mut WriteIo,
-    bytes: &[u8],
+    bytes: &mut Shared,
     layer: Layer,
     family: &mut Family,
     name: &Named,
@@ -160,8 +161,8 @@ pub(crate) fn start_write(
     requires over { IsWriteOver tops.now io.old }
     requires sits { SitsOn layer (IsOutIn io.old) family.old }
     ensures starts { IfOk result (λ leaf. (t : Terms) (st : Stack) → t.setting.tops ≡ tops.now →
-        IsWriteAt t bytes.now layer io.old family.old st →
-        StartsBy t st leaf (IsWriteAt t bytes.now layer io.new family.new)) }
+        IsWriteAt t bytes.old layer io.old family.old st →
+        StartsBy t st leaf (IsWriteAt t bytes.old layer io.new family.new)) }
     ensures over { IsWriteOver tops.now io.new }
     ensures sits { SitsOn layer (IsOutIn io.new) family.new }
     ensures due { IfOk result (λ leaf. IfSome leaf IsDue) }
@@ -169,6 +170,7 @@ pub(crate) fn start_write(
     ensures count { length family.new + io.old.asked ≡ length family.old + io.new.asked }
     ensures pass { io.new.write.retry ≡ io.old.write.retry }
     ensures none { result ≡ Ok None → IsWriteStep tops.now io.new IoStep.Child → ⊥ }
+    ensures bytes { bytes.new ≡ bytes.old }
     ensures io_err { OnErr result (io.new ≡ io.old) }
     ensures family_err { OnErr result (family.new ≡ family.old) }
 {

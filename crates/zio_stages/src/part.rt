@@ -1,6 +1,6 @@
 // The write of a part of a block, as a node's part of the work or as a request's own.
 
-ghost use Rattle.std.specs.Prelude.{◌≡◌, ◌++◌, ◌+◌, ◌-◌, ◌*◌, ◌%◌, ◌^◌, ◌∷◌, ◌<◌, ◌≤◌, ℕ, Contains, IfErr, IfOk, IfSome, IsTrue, List, None, Option, Some, [], drop, false, length, slice_get, slice_set, take, true};
+ghost use Rattle.std.specs.Prelude.{◌≡◌, ◌++◌, ◌+◌, ◌-◌, ◌*◌, ◌%◌, ◌^◌, ◌∷◌, ◌<◌, ◌≤◌, ℕ, Contains, IfOk, IfSome, IsTrue, List, None, OnErr, Option, Some, [], drop, false, length, slice_get, slice_set, take, true};
 ghost use Rattle.zio_types.specs.Choices.{Ask};
 ghost use Rattle.zio_blkptr.specs.Pointers.{FitsTypes, valid};
 ghost use Rattle.zio_gang.specs.Attempts.{Terms, writing_of};
@@ -16,23 +16,19 @@ ghost use Rattle.zio_parts.specs.declared.parts.Placing.TheVariants.{Body};
 ghost use Rattle.zio_exchange.specs.Outcomes.{IsKept, stored_as};
 ghost use Rattle.zio_stages.specs.PartOwns.{ForBytes, ForMember, HandsMember, HandsOut, IsOutAs, IsPartOwn, PartAsks, ShowsOwn, WrittenPart, asks_in, part_plan};
 
+use crate::at_once::root;
 use std::alloc::Global;
+use std::mem::replace;
 use std::ops::Range;
-use zio_blkptr::{BLOCK_SIZE_MAX, Bp};
+use zio_blkptr::{BLOCK_SIZE_MAX, Bp, SumKind};
 use zio_parts::{BlockWrite, PartBack, PartStep, PartWrite, PlaceAsk, StoredPart};
-use zio_types::{Errno, List, Path, Place};
+use zio_types::{Errno, List, NoMemory, Path, Place};
 
 /// The write of a part of a block: of a member by its own node, or of the whole by its request. Whoever holds it holds
 /// the bytes too.
 #[derive(Debug, Drop)]
 pub struct PartOwn {
     part: PartWrite,
-}
-
-/// There is no memory for what the part leaves.
-#[derive(Debug, Drop)]
-pub struct OwnBack {
-    pub own: PartOwn,
 }
 
 impl PartOwn {
@@ -242,27 +238,41 @@ impl PartOwn {
         self.part.pointer()
     }
 
-    /// What it leaves, once it ended. Where memory is refused it comes back.
-    pub fn into_stored(self, alloc: Global) -> Result<StoredPart, OwnBack>
-        requires { ShowsOwn self PartStep.End }
+    /// What it leaves, once it ended, which it holds no longer. Where memory is refused it is as before.
+    pub fn take_stored(&mut self, alloc: Global) -> Result<StoredPart, NoMemory>
+        requires { ShowsOwn self.old PartStep.End }
         ensures valid { IfOk result (λ stored. IfSome stored.pointer (λ bp. IsTrue (valid bp))) }
         ensures kept { IfOk result (λ stored. IsKept stored.pointer stored.heads) }
-        ensures exact { IfOk result (λ stored. stored_as stored ≡ stored_by self.part) }
-        ensures back { IfErr result (λ e. e.own ≡ self) }
+        ensures exact { IfOk result (λ stored. stored_as stored ≡ stored_by self.old.part) }
+        ensures same { OnErr result (self.new ≡ self.old) }
         ensures ended { IfOk result (λ stored. (t : Terms) (o : WrittenPart) (asked : List Task) (slots : List Slot) →
-            IsPartOwn t self o asked slots →
+            IsPartOwn t self.old o asked slots →
             AllHeard slots × (left_behind_slots slots (part_plan t o) ≡ Ends (StoredAs (stored_as stored)))) }
     {
         // The clauses say that the pointer is valid, and fits its types.
         let told = self.part.pointer();
         fits_types(&told);
-        match self.part.into_stored(alloc) {
+        match replace(&mut self.part, no_part()).into_stored(alloc) {
             Ok(stored) => Ok(stored),
-            Err(PartBack { part }) => Err(OwnBack {
-                own: PartOwn { part },
-            }),
+            Err(PartBack { part }) => {
+                self.part = part;
+                Err(NoMemory)
+            }
         }
     }
+}
+
+/// What stands in place of a part that left what it came to.
+fn no_part() -> PartWrite {
+    let write = BlockWrite {
+        request: 0,
+        round: 0,
+        attempt: 0,
+        sum: SumKind::Off,
+        copies: 1,
+        birth: 1,
+    };
+    PartWrite::new(write, root(), &[0; 512])
 }
 
 /// How many steps a path has.

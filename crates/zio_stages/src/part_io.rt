@@ -27,6 +27,7 @@ use crate::part_work::{PartWork, filled};
 use crate::write_io::WriteIo;
 use std::alloc::Global;
 use zio_parts::PartStep;
+use zio_shared::Shared;
 use zio_types::{Errno, List, NoMemory, Role, Top};
 
 impl PartWork {
@@ -117,7 +118,7 @@ impl PartWork {
         let places = Vec::from_slice(alloc, self.own.places())?;
         let room = Vec::with_capacity(alloc, 512)?;
         let header = self.own.hand_out_header();
-        self.bytes = filled(room, &header);
+        self.bytes = Shared::alone(filled(room, &header));
         self.io = Some(WriteIo::new(List::from_vec(places), self.prio));
         self.role = Role::Head;
         Ok(())
@@ -150,7 +151,7 @@ impl PartWork {
         let name = name.with_role(self.role);
         let leaf = start_write(
             &mut io,
-            self.bytes.as_slice(),
+            &mut self.bytes,
             Layer::Within,
             family,
             &name,

@@ -1,6 +1,6 @@
 // The members of a part that is written as a gang, the pointer that it tells, and its end.
 
-ghost use Rattle.std.specs.Prelude.{◌≡◌, ◌+◌, ◌^◌, ◌<◌, ℕ, IfErr, IfOk, IfSome, IsTrue, List as Seq, None, OnErr, Ok, Option, Some, length, slice_get, true};
+ghost use Rattle.std.specs.Prelude.{◌≡◌, ◌+◌, ◌^◌, ◌<◌, ℕ, IfOk, IfSome, IsTrue, List as Seq, None, OnErr, Ok, Option, Some, length, slice_get, true};
 ghost use Rattle.zio_types.specs.declared.place.Top.{Top as SeenTop};
 ghost use Rattle.zio_types.specs.declared.request.ChildKind.TheVariants.{Gang};
 ghost use Rattle.zio_types.specs.declared.request.Phase.TheVariants.{Done, Ready};
@@ -26,22 +26,14 @@ ghost use Rattle.zio_stages.specs.Tops.{AreTops};
 
 use crate::family::{Family, Seat};
 use crate::named::Named;
-use crate::part::OwnBack;
 use crate::part_node::{Allocated, PartNode};
 use crate::part_work::PartWork;
 use crate::request_node::{DoneStep, ReadyStep};
-use crate::write_io::copy_of;
 use std::alloc::Global;
 use zio_blkptr::Bp;
 use zio_exchange::Services;
 use zio_parts::{PartStep, StoredPart};
 use zio_types::{ChildKind, NoMemory};
-
-/// There is no memory for what the part leaves.
-#[derive(Drop)]
-pub(crate) struct WorkBack {
-    pub(crate) work: PartWork,
-}
 
 impl PartWork {
     /// Asks the space for the part's places, for a header's where these are refused, and hands out the gang's next
@@ -85,7 +77,7 @@ impl PartWork {
         }
     }
 
-    /// The gang's next member, whose child was added, with a copy of its own bytes; none where none is due. Where
+    /// The gang's next member, whose child was added, which holds its own bytes too; none where none is due. Where
     /// memory is refused all is as before.
     pub(crate) fn member(
         &mut self,
@@ -116,7 +108,9 @@ impl PartWork {
             return Ok(None);
         };
         let range = self.own.member_range(n);
-        let bytes = copy_of(alloc, &self.bytes.as_slice()[range])?;
+        let bytes = self
+            .bytes
+            .part(alloc, range.start, range.end - range.start)?;
         let name = name.member(n as u8);
         let seat = Seat::Outer(front + 2 + n);
         family.add(ChildKind::Gang, seat, name.label(0))?;
@@ -161,36 +155,18 @@ impl PartWork {
         }
     }
 
-    /// What it leaves, once it ended. Where memory is refused it comes back.
-    pub(crate) fn into_stored(self, alloc: Global) -> Result<StoredPart, WorkBack>
-        requires end { ShowsOwn self.own PartStep.End }
+    /// What it leaves, once it ended, which it holds no longer. Where memory is refused it is as before.
+    pub(crate) fn take_stored(&mut self, alloc: Global) -> Result<StoredPart, NoMemory>
+        requires end { ShowsOwn self.old.own PartStep.End }
         ensures valid { IfOk result (λ stored. IfSome stored.pointer (λ bp. IsTrue (valid bp))) }
         ensures kept { IfOk result (λ stored. IsKept stored.pointer stored.heads) }
-        ensures exact { IfOk result (λ stored. stored_as stored ≡ stored_by self.own.part) }
+        ensures exact { IfOk result (λ stored. stored_as stored ≡ stored_by self.old.own.part) }
         ensures ended { IfOk result (λ stored. (t : Terms) (o : WrittenPart) (asked : Seq Task) (slots : Seq Slot) →
-            IsPartOwn t self.own o asked slots →
+            IsPartOwn t self.old.own o asked slots →
             AllHeard slots × (left_behind_slots slots (part_plan t o) ≡ Ends (StoredAs (stored_as stored)))) }
-        ensures back { IfErr result (λ e. e.work ≡ self) }
+        ensures same { OnErr result (self.new ≡ self.old) }
     {
-        let PartWork {
-            own,
-            bytes,
-            io,
-            prio,
-            role,
-        } = self;
-        match own.into_stored(alloc) {
-            Ok(stored) => Ok(stored),
-            Err(OwnBack { own }) => Err(WorkBack {
-                work: PartWork {
-                    own,
-                    bytes,
-                    io,
-                    prio,
-                    role,
-                },
-            }),
-        }
+        self.own.take_stored(alloc)
     }
 
     /// A member told which pointer it will have.

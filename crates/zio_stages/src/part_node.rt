@@ -1,6 +1,6 @@
 //! A gang's member that is written, as a node.
 
-ghost use Rattle.std.specs.Prelude.{◌≡◌, ◌∷◌, ◌*◌, ◌%◌, ◌+◌, ◌-◌, ◌^◌, ◌<◌, ◌≤◌, IfErr, IfOk, IfSome, IsPermutation, IsTrue, List as Seq, None, OnErr, OnOk, Ok, Option, Some, [], false, length, slice_get, true};
+ghost use Rattle.std.specs.Prelude.{◌≡◌, ◌∷◌, ◌*◌, ◌%◌, ◌+◌, ◌-◌, ◌^◌, ◌<◌, ◌≤◌, IfOk, IfSome, IsPermutation, IsTrue, List as Seq, None, OnErr, OnOk, Ok, Option, Some, [], false, length, slice_get, true};
 ghost use Rattle.zio_types.specs.declared.place.Top.{Top as SeenTop};
 ghost use Rattle.zio_types.specs.declared.request.ChildKind.TheVariants.{Vdev};
 ghost use Rattle.zio_types.specs.declared.request.Phase.TheVariants.{Done, Ready};
@@ -32,13 +32,13 @@ use crate::leaf::LeafWork;
 use crate::named::Named;
 use crate::node_io::IoNext;
 use crate::part::PartOwn;
-use crate::part_members::WorkBack;
 use crate::part_work::PartWork;
 use crate::request_node::{DoneStep, ReadyStep};
 use std::alloc::Global;
 use zio_blkptr::{BLOCK_SIZE_MAX, Bp};
 use zio_exchange::Services;
 use zio_parts::{BlockWrite, PartStep, StoredPart};
+use zio_shared::Shared;
 use zio_types::{Bytes, ChildKind, Errno, NoMemory, Path, Prio, ReqNo, Role, Top};
 
 /// The write of a gang's member, which may become a gang itself.
@@ -58,15 +58,15 @@ pub enum Allocated {
     Placed,
 }
 
-/// There is no memory for what the part leaves.
-#[derive(Drop)]
-pub struct PartNodeBack {
-    pub node: PartNode,
-}
-
 impl PartNode {
     /// Nothing of it is done. Its children's memory is from `alloc`.
-    pub(crate) fn of(alloc: Global, own: PartOwn, bytes: Bytes, prio: Prio, name: Named) -> PartNode
+    pub(crate) fn of(
+        alloc: Global,
+        own: PartOwn,
+        bytes: Shared,
+        prio: Prio,
+        name: Named,
+    ) -> PartNode
         requires size { length bytes ≡ own.part.size }
         requires body { own.part.placing ≡ Body }
         requires due { own.part.own ≡ Due }
@@ -115,7 +115,7 @@ impl PartNode {
         ensures none { result.work.io ≡ None }
     {
         let own = PartOwn::new(write, path, bytes.as_slice());
-        PartNode::of(alloc, own, bytes, prio, name)
+        PartNode::of(alloc, own, Shared::alone(bytes), prio, name)
     }
 
     /// The number of the request for which it writes.
@@ -250,24 +250,18 @@ impl PartNode {
         self.work.done()
     }
 
-    /// What it leaves, once it ended. Where memory is refused it comes back.
-    pub fn into_stored(self, alloc: Global) -> Result<StoredPart, PartNodeBack>
-        requires end { ShowsOwn self.work.own PartStep.End }
-        requires none { self.work.io ≡ None }
-        ensures ended { IfOk result (λ stored. (t : Terms) (st : Stack) → IsPartNode t self st
+    /// What it leaves, once it ended, which it holds no longer. Where memory is refused it is as before.
+    pub fn take_stored(&mut self, alloc: Global) -> Result<StoredPart, NoMemory>
+        requires end { ShowsOwn self.old.work.own PartStep.End }
+        requires none { self.old.work.io ≡ None }
+        ensures ended { IfOk result (λ stored. (t : Terms) (st : Stack) → IsPartNode t self.old st
             → IsEnded t st (StoredAs (stored_as stored))) }
         ensures kept { IfOk result (λ stored. IsKept stored.pointer stored.heads) }
-        ensures places { IfOk result (λ stored. (t : Terms) (st : Stack) → IsPartNode t self st →
+        ensures places { IfOk result (λ stored. (t : Terms) (st : Stack) → IsPartNode t self.old st →
             IsPermutation (held_by st) (stored_in (StoredAs (stored_as stored)))) }
-        ensures back { IfErr result (λ e. e.node ≡ self) }
+        ensures same { OnErr result (self.new ≡ self.old) }
     {
-        let PartNode { work, family, name } = self;
-        match work.into_stored(alloc) {
-            Ok(stored) => Ok(stored),
-            Err(WorkBack { work }) => Err(PartNodeBack {
-                node: PartNode { work, family, name },
-            }),
-        }
+        self.work.take_stored(alloc)
     }
 
     /// A member told which pointer it will have.

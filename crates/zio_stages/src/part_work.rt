@@ -27,6 +27,7 @@ use std::alloc::Global;
 use zio_blkptr::BLOCK_SIZE_MAX;
 use zio_exchange::Services;
 use zio_parts::{BlockWrite, PartStep, PlaceAsk};
+use zio_shared::Shared;
 use zio_types::{Bytes, Entry, List, NoMemory, Path, Place, Prio, Role};
 
 /// The write of a part, with its bytes until its own write begins, and the write of its body or header if that is under
@@ -34,7 +35,7 @@ use zio_types::{Bytes, Entry, List, NoMemory, Path, Place, Prio, Role};
 #[derive(Drop)]
 pub(crate) struct PartWork {
     pub(crate) own: PartOwn,
-    pub(crate) bytes: Bytes,
+    pub(crate) bytes: Shared,
     pub(crate) io: Option<WriteIo>,
     pub(crate) prio: Prio,
     /// What its own write writes.
@@ -64,7 +65,7 @@ impl PartWork {
     {
         PartWork {
             own: PartOwn::new(write, path, bytes.as_slice()),
-            bytes,
+            bytes: Shared::alone(bytes),
             io: None,
             prio,
             role: Role::Body,

@@ -14,10 +14,11 @@ ghost use Rattle.zio_stages.specs.WriteIos.{AreIoPlaces, ShowsOuts};
 use crate::check::Check;
 use crate::leaf::LeafWork;
 use crate::named::Named;
-use crate::write_io::{IoStep, copy_of};
+use crate::write_io::IoStep;
 use std::alloc::Global;
 use zio_exchange::Summed;
 use zio_parts::{CopyRead, ReadStep};
+use zio_shared::Shared;
 use zio_types::{Bytes, Errno, List, NoMemory, Place, Prio, Top};
 
 /// The read of a block's copies: one after another until one is good, where none is once more, and then a write to each
@@ -119,8 +120,9 @@ impl ReadIo {
             ReadStep::Repair(target) => {
                 let retry = self.read.retry();
                 let copy = copy_of(alloc, self.read.bytes())?;
+                let bytes = Shared::alone(copy);
                 let origin = name.on(self.read.places(), &target.place);
-                Ok(LeafWork::write(origin, &target, retry, Prio::AsyncWrite, true, copy))
+                Ok(LeafWork::write(origin, &target, retry, Prio::AsyncWrite, true, bytes))
             }
             ReadStep::Wait | ReadStep::Retry | ReadStep::End(_) => unreachable!(),
         }
@@ -225,4 +227,11 @@ fn io_of_read(step: ReadStep) -> IoStep
         ReadStep::Retry => IoStep::Retry,
         ReadStep::End(_) => IoStep::End,
     }
+}
+
+/// The same bytes once more.
+fn copy_of(alloc: Global, bytes: &[u8]) -> Result<Bytes, NoMemory>
+    ensures { IfOk result (λ copy. copy ≡ bytes.now) }
+{
+    Ok(List::from_vec(Vec::from_slice(alloc, bytes)?))
 }

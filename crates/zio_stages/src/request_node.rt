@@ -7,32 +7,29 @@
 ghost use Rattle.std.specs.Prelude.{◌≡◌, ◌<◌, ◌⊎◌, ℕ, List as Seq, [], IfErr, IfOk, None, OnErr, Ok, Option, Some, length, option_map, slice_get, slice_set, true};
 ghost use Rattle.std.specs.List.{AllByRecursion, list_all, list_any};
 ghost use Rattle.zio_types.specs.declared.place.Top.{Top as SeenTop};
-ghost use Rattle.zio_types.specs.declared.request.Phase.TheVariants.{Done, Ready};
-ghost use Rattle.zio_script.specs.Requests.{kind_of};
+ghost use Rattle.zio_types.specs.declared.request.Phase.TheVariants.{Done};
 ghost use Rattle.zio_script.specs.declared.script.Work.{Work};
-ghost use Rattle.zio_gang.specs.Attempts.{Pending, Terms, all_bits, bits_of, has_bits, no_bits};
+ghost use Rattle.zio_gang.specs.Attempts.{Pending, Terms, has_bits, no_bits};
 ghost use Rattle.zio_trace.specs.Families.{Forest, NoTrees};
 ghost use Rattle.zio_trace.specs.Tasks.{Attempt, AttemptedBy, One};
-ghost use Rattle.zio_children.specs.RequestKids.{IsLeftBy, IsOutWith, is_ended, kid_handed, kid_is, numbers_of, returns_in};
+ghost use Rattle.zio_children.specs.RequestKids.{IsLeftBy, IsOutWith, is_ended, kid_handed, kid_is, numbers_of};
 ghost use Rattle.zio_children.specs.declared.kids.KidState.TheVariants.{Ended, Out, Told};
 ghost use Rattle.zio_gang.specs.Pointers.{IsNoneOrValid};
 ghost use Rattle.zio_frames.specs.Frames.{Child, Stack, fresh_stack};
-ghost use Rattle.zio_frames.specs.Moves.{WillHave, heard_early, heard_of};
+ghost use Rattle.zio_frames.specs.Moves.{heard_early, heard_of};
 ghost use Rattle.zio_frames.specs.Seats.{IsSeated, asked_at};
 ghost use Rattle.zio_exchange.specs.Wholes.{IsLeft, IsTreeOf, root_number, root_of};
 ghost use Rattle.zio_exchange.specs.declared.waiting.UnfinishedRequest.{UnfinishedRequest as SeenWaiting};
-ghost use Rattle.zio_stages.specs.Closings.{ClosesBy, EndsBy};
-ghost use Rattle.zio_stages.specs.KidLists.{AreBegun, HoldTheSame, HoldsBut, IsListOf, LeavesList};
+ghost use Rattle.zio_stages.specs.Closings.{EndsBy};
+ghost use Rattle.zio_stages.specs.KidLists.{AreBegun, HoldTheSame, HoldsBut, IsListOf};
 ghost use Rattle.zio_stages.specs.KidPointers.{HasValid, HaveValidPointers};
 ghost use Rattle.zio_stages.specs.NodeChildren.{is_owing};
-ghost use Rattle.zio_stages.specs.OwnParts.{IsOwed};
-ghost use Rattle.zio_stages.specs.RequestNodes.{Closes, HandsKid, IsKidAt, IsOwnOver, IsRequestNode, IsSeatOf, OwnEnds, own_got};
+ghost use Rattle.zio_stages.specs.RequestNodes.{HandsKid, IsKidAt, IsOwnOver, IsRequestNode, IsSeatOf};
 ghost use Rattle.zio_stages.specs.RequestStages.{HasToldIn, with_kids};
-ghost use Rattle.zio_stages.specs.RequestStoreds.{is_well, keeps_block, own_in};
 ghost use Rattle.zio_stages.specs.declared.request_node.OwnFound.{OwnFound as SeenFound};
 
-use crate::attempted::{AgainBack, RequestKids};
-use crate::closing::{Outcome, sealed};
+use crate::attempted::RequestKids;
+use crate::closing::{Outcome, close};
 use crate::family::{Family, Seat};
 use crate::own_claim::OwnClaim;
 use crate::own_free::OwnFree;
@@ -42,11 +39,10 @@ use crate::stored_block::StoredBlock;
 use std::alloc::Global;
 use zio_blkptr::Bp;
 use zio_children::KidStep;
-use zio_counts::all_bits;
 use zio_exchange::{UnfinishedRequest, Whole, WholeBack};
 use zio_gang::Tree;
 use zio_script::Failmode;
-use zio_types::{Bits, ChildKind, Errno, List, NoMemory, ReqNo, worst};
+use zio_types::{Bits, ChildKind, Errno, List, NoMemory};
 
 /// How far a request's own work is.
 #[derive(Drop)]
@@ -117,19 +113,6 @@ pub enum DoneStep {
     /// A child of this kind hasn't ended.
     Wait(ChildKind),
     Close,
-}
-
-/// There is no memory for the tree that goes again.
-#[derive(Drop)]
-pub struct NodeBack {
-    pub node: RequestNode,
-}
-
-/// The same, with what its own work came to.
-#[derive(Drop)]
-pub(crate) struct CloseBack {
-    pub(crate) node: RequestNode,
-    pub(crate) own: OwnFound,
 }
 
 impl RequestNode {
@@ -215,87 +198,26 @@ impl RequestNode {
         }
     }
 
-    /// What becomes of a null whose children all ended. Where memory is refused the node comes back.
-    pub fn close_null(self, alloc: Global) -> Result<Outcome, NodeBack>
-        requires null { self.waiting.request.work ≡ Work.Null }
-        requires ended { list_all is_ended self.kids.kids.kids ≡ true }
-        ensures ends { IfOk result (λ outcome. (own : SeenFound) × (own.tree ≡ None) × EndsBy self own outcome) }
-        ensures back { IfErr result (λ e. e.node ≡ self) }
+    /// What becomes of a null whose children all ended. Where memory is refused the node is as before.
+    pub fn close_null(&mut self, alloc: Global) -> Result<Outcome, NoMemory>
+        requires null { self.old.waiting.request.work ≡ Work.Null }
+        requires ended { list_all is_ended self.old.kids.kids.kids ≡ true }
+        ensures ends { IfOk result (λ outcome. (own : SeenFound) × (own.tree ≡ None) × EndsBy self.old own outcome) }
+        ensures same { OnErr result (self.new ≡ self.old) }
     {
-        let own = OwnFound {
+        let mut own = OwnFound {
             error: None,
             bytes: List::new(alloc),
             tree: None,
             pointer: None,
         };
-        match self.close(alloc, own) {
-            Ok(outcome) => Ok(outcome),
-            Err(back) => Err(NodeBack { node: back.node }),
-        }
-    }
-
-    /// The decision, where its own work came to this: with bits of its own or of a child it goes again, and else it
-    /// finishes with the worst error of all. Where memory is refused both come back.
-    pub(crate) fn close(self, alloc: Global, own: OwnFound) -> Result<Outcome, CloseBack>
-        requires { list_all is_ended self.kids.kids.kids ≡ true }
-        ensures closes { IfOk result (ClosesBy self own) }
-        ensures back { IfErr result (λ e. (e.node ≡ self) × (e.own ≡ own)) }
-    {
-        let bits = self.bits(own.error);
-        if !bits.go_again() {
-            let error = worst(own.error, self.kids.kids().worst());
-            let RequestNode {
-                waiting,
-                attempt,
-                ..
-            } = self;
-            return Ok(sealed(&waiting, attempt, error, own));
-        }
-        let RequestNode {
-            waiting,
-            kids,
-            own: begun,
-            family,
-            round,
-            attempt,
-            failmode,
-        } = self;
-        match kids.again(alloc, waiting) {
-            Ok(whole) => Ok(Outcome::Again {
-                whole,
-                bits,
-                pointer: own.pointer,
-            }),
-            Err(AgainBack { kids, waiting }) => {
-                let node = RequestNode {
-                    waiting,
-                    kids,
-                    own: begun,
-                    family,
-                    round,
-                    attempt,
-                    failmode,
-                };
-                Err(CloseBack { node, own })
-            }
-        }
-    }
-
-    /// All bits of the request, where its own work came to this error.
-    pub(crate) fn bits(&self, error: Option<Errno>) -> Bits
-        requires { list_all is_ended self.now.kids.kids.kids ≡ true }
-        ensures { result ≡ all_bits (kind_of self.now.waiting.request.work) error self.now.waiting.request.canfail
-            self.now.failmode
-            (bits_of (returns_in self.now.kids.kids)) }
-    {
-        let request = &self.waiting.request;
-        let kind = request.work.kind();
-        all_bits(
-            kind,
-            error,
-            request.canfail,
+        close(
+            alloc,
+            self.attempt,
             self.failmode,
-            self.kids.kids().bits(),
+            &mut self.waiting,
+            &mut self.kids,
+            &mut own,
         )
     }
 

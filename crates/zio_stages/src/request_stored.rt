@@ -3,7 +3,7 @@
 //! Where the request fails or goes again, the places of its block go back to the space before the attempt closes, so
 //! that what closes keeps a block exactly where it finished without error.
 
-ghost use Rattle.std.specs.Prelude.{◌≡◌, IfErr, IfOk, List as Seq, OnOk, Some, length, false, true};
+ghost use Rattle.std.specs.Prelude.{◌≡◌, IfOk, List as Seq, OnErr, OnOk, Some, length, false, true};
 ghost use Rattle.std.specs.List.{list_all};
 ghost use Rattle.zio_types.specs.declared.place.Top.{Top as SeenTop};
 ghost use Rattle.zio_gang.specs.Attempts.{Terms};
@@ -17,11 +17,10 @@ ghost use Rattle.zio_stages.specs.RequestStoreds.{IsStoredWith, error_by, found_
 ghost use Rattle.zio_stages.specs.StoredBlocks.{IsGoingBack};
 ghost use Rattle.zio_stages.specs.declared.request_node.OwnFound.{OwnFound};
 
-use crate::closing::Outcome;
-use crate::request_node::{CloseBack, NodeBack, Own, RequestNode};
+use crate::closing::{Outcome, bits_over, close};
+use crate::request_node::{Own, RequestNode};
 use crate::stored_block::StoredBlock;
 use std::alloc::Global;
-use std::mem::replace;
 use zio_exchange::Services;
 use zio_types::{Errno, NoMemory, worst};
 
@@ -31,7 +30,7 @@ impl RequestNode {
         requires { list_all is_ended self.now.kids.kids.kids ≡ true }
         ensures { result ≡ is_well self.now error }
     {
-        let bits = self.bits(error);
+        let bits = bits_over(&self.waiting, &self.kids, self.failmode, error);
         let all = worst(error, self.kids.kids().worst());
         !bits.go_again() && all.is_none()
     }
@@ -70,31 +69,25 @@ impl RequestNode {
     }
 
     /// The decision of a write, whose block's places went back where it was to lose them. Where memory is refused the
-    /// node comes back.
-    pub fn close_write(self, alloc: Global) -> Result<Outcome, NodeBack>
-        requires stored { IsStoredWith IsGoingBack self.own }
-        requires ended { list_all is_ended self.kids.kids.kids ≡ true }
-        ensures ends { IfOk result (λ outcome. (own : OwnFound) × (found_by self.own ≡ Some own)
-            × EndsBy self own outcome) }
-        ensures back { IfErr result (λ e. e.node ≡ self) }
+    /// node is as before.
+    pub fn close_write(&mut self, alloc: Global) -> Result<Outcome, NoMemory>
+        requires stored { IsStoredWith IsGoingBack self.old.own }
+        requires ended { list_all is_ended self.old.kids.kids.kids ≡ true }
+        ensures ends { IfOk result (λ outcome. (own : OwnFound) × (found_by self.old.own ≡ Some own)
+            × EndsBy self.old own outcome) }
+        ensures same { OnErr result (self.new ≡ self.old) }
     {
-        let mut node = self;
-        match replace(&mut node.own, Own::Over) {
-            Own::Stored(StoredBlock { own, places, given }) => match node.close(alloc, own) {
-                Ok(outcome) => Ok(outcome),
-                Err(CloseBack { mut node, own }) => {
-                    node.own = Own::Stored(StoredBlock { own, places, given });
-                    Err(NodeBack { node })
-                }
-            },
-            Own::Due
-            | Own::Write(_)
-            | Own::Read(_)
-            | Own::Free(_)
-            | Own::Claim(_)
-            | Own::Found(_)
-            | Own::Over => unreachable!(),
-        }
+        let Own::Stored(StoredBlock { own, .. }) = &mut self.own else {
+            unreachable!()
+        };
+        close(
+            alloc,
+            self.attempt,
+            self.failmode,
+            &mut self.waiting,
+            &mut self.kids,
+            own,
+        )
     }
 }
 

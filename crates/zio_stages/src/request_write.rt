@@ -25,12 +25,10 @@ ghost use Rattle.zio_stages.specs.RequestStoreds.{IsStoredWith, given_by};
 ghost use Rattle.zio_stages.specs.StoredBlocks.{IsGoingBack};
 
 use crate::own_write::{OwnWrite, block_of};
-use crate::part_members::WorkBack;
 use crate::part_work::PartWork;
 use crate::request_node::{DoneStep, Own, ReadyStep, RequestNode};
 use crate::stored_block::StoredBlock;
 use std::alloc::Global;
-use std::mem::replace;
 use zio_types::{ChildKind, NoMemory};
 
 /// The block of a write as it is to be written: its content, and the sum of that.
@@ -172,24 +170,11 @@ impl RequestNode {
         ensures rest { self.new ≡ with_own self.old self.new.own self.old.family }
         ensures err { OnErr result (self.new ≡ self.old) }
     {
-        match replace(&mut self.own, Own::Over) {
-            Own::Write(OwnWrite { work }) => match work.into_stored(alloc) {
-                Ok(stored) => {
-                    self.own = Own::Stored(StoredBlock::of(alloc, stored));
-                    Ok(())
-                }
-                Err(WorkBack { work }) => {
-                    self.own = Own::Write(OwnWrite { work });
-                    Err(NoMemory)
-                }
-            },
-            Own::Due
-            | Own::Stored(_)
-            | Own::Read(_)
-            | Own::Free(_)
-            | Own::Claim(_)
-            | Own::Found(_)
-            | Own::Over => unreachable!(),
-        }
+        let Own::Write(OwnWrite { work }) = &mut self.own else {
+            unreachable!()
+        };
+        let stored = work.take_stored(alloc)?;
+        self.own = Own::Stored(StoredBlock::of(alloc, stored));
+        Ok(())
     }
 }

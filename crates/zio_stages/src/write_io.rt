@@ -25,7 +25,8 @@ use crate::leaf::LeafWork;
 use crate::named::Named;
 use std::alloc::Global;
 use zio_parts::{CopyWrite, WriteStep};
-use zio_types::{Bytes, Errno, List, NoMemory, Place, Prio, Top};
+use zio_shared::Shared;
+use zio_types::{Errno, List, NoMemory, Place, Prio, Top};
 
 /// What the read or the write of a block's copies is to do next.
 #[derive(Clone, Copy, Debug, PartialEq, Eq)]
@@ -88,27 +89,28 @@ impl WriteIo {
         io_of(step)
     }
 
-    /// The operation of the step, by the part with this name, with a copy of the bytes.
+    /// The operation of the step, by the part with this name, which holds the bytes too.
     pub fn next_leaf(
         &self,
         alloc: Global,
         tops: &[Top],
         name: &Named,
-        bytes: &[u8],
+        bytes: &mut Shared,
     ) -> Result<LeafWork, NoMemory>
         requires over { IsWriteOver tops.now self.now }
         requires step { IsWriteStep tops.now self.now IoStep.Child }
         ensures next { IfOk result (λ child. (t : Terms) (x : Frame) → t.setting.tops ≡ tops.now →
-            IsWriteIo t bytes.now self.now x → AsksOfWrite t bytes.now x child self.now) }
+            IsWriteIo t bytes.old self.now x → AsksOfWrite t bytes.old x child self.now) }
         ensures due { IfOk result IsDue }
         ensures origin { IfOk result (λ child. child.origin.part ≡ name.now) }
+        ensures bytes { bytes.new ≡ bytes.old }
     {
         let WriteStep::Store(target) = self.write.next(tops) else {
             unreachable!()
         };
-        let copy = copy_of(alloc, bytes)?;
+        let bytes = bytes.share(alloc)?;
         let origin = name.on(self.write.places(), &target.place);
-        Ok(LeafWork::write(origin, &target, self.write.retry(), self.prio, false, copy))
+        Ok(LeafWork::write(origin, &target, self.write.retry(), self.prio, false, bytes))
     }
 
     /// The operation of the step is out.
@@ -183,11 +185,4 @@ fn io_of(step: WriteStep) -> IoStep
         WriteStep::Retry => IoStep::Retry,
         WriteStep::End(_) => IoStep::End,
     }
-}
-
-/// The same bytes once more.
-pub(crate) fn copy_of(alloc: Global, bytes: &[u8]) -> Result<Bytes, NoMemory>
-    ensures { IfOk result (λ copy. copy ≡ bytes.now) }
-{
-    Ok(List::from_vec(Vec::from_slice(alloc, bytes)?))
 }

@@ -18,7 +18,8 @@ use std::alloc::Global;
 use zio_disks::{Setting, Stop};
 use zio_groups::Answered;
 use zio_outside::Disk;
-use zio_types::{Bytes, Entry, List, NoMemory, Top};
+use zio_shared::Shared;
+use zio_types::{Entry, List, NoMemory, Top};
 use zio_vqueue::Op;
 
 /// What an engine lends to the nodes of a round, and does what they ask with.
@@ -81,7 +82,7 @@ impl<D: Disk + Drop> Grounds<D> {
 
     /// The operation waits at the leaf under this key, under which none waits. Where memory is refused nothing has
     /// changed, and the bytes are dropped.
-    pub fn put(&mut self, leaf: u32, key: usize, op: Op, bytes: Bytes) -> Result<(), Stop>
+    pub fn put(&mut self, leaf: u32, key: usize, op: Op, bytes: Shared) -> Result<(), Stop>
         requires there { leaf < length self.old.queues.leaves.items }
         requires fits { FitsDevice op }
         requires lies { end_of op ≤ slice_index_or (map D.bytes self.old.disks.items) leaf 0 }

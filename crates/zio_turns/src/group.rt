@@ -12,6 +12,7 @@ ghost use Rattle.zio_turns.specs.Wrote.{TellWrote};
 
 use crate::grounds::Grounds;
 use crate::turns::Turns;
+use std::alloc::Global;
 use zio_disks::Stop;
 use zio_groups::Answered;
 use zio_outside::Disk;
@@ -47,14 +48,18 @@ pub fn issue_group<N: Staged, D: Disk + Drop>(
     ensures setting { grounds.new.setting ≡ grounds.old.setting }
 {
     let answers = grounds.issue(k)?;
-    match tell_answers(turns, answers) {
+    match tell_answers(grounds.alloc, turns, answers) {
         Ok(()) => Ok(()),
         Err(NoMemory) => Err(Stop::Memory),
     }
 }
 
-/// Tells each node under a key what its leaf answered.
-fn tell_answers<N: Staged>(turns: &mut Turns<N>, answers: List<Answered>) -> Result<(), NoMemory>
+/// Tells each node under a key what its leaf answered. Bytes that are a part of what was read become the node's own.
+fn tell_answers<N: Staged>(
+    alloc: Global,
+    turns: &mut Turns<N>,
+    answers: List<Answered>,
+) -> Result<(), NoMemory>
     requires { AreAtLeaves N.nodes turns.old.nodes turns.old.line answers }
     ensures back { OnOk result
         (ComeBack N.nodes turns.old.nodes turns.old.line turns.new.nodes turns.new.line answers) }
@@ -64,7 +69,8 @@ fn tell_answers<N: Staged>(turns: &mut Turns<N>, answers: List<Answered>) -> Res
         ≤ load N.nodes.left turns.old.nodes turns.old.line + length answers) }
 {
     for answer in answers.into_rest() {
-        turns.answered(answer.ticket as usize, answer.error, answer.bytes)?;
+        let bytes = answer.bytes.into_bytes(alloc)?;
+        turns.answered(answer.ticket as usize, answer.error, bytes)?;
     }
     Ok(())
 }

@@ -145,14 +145,15 @@ pub(crate) fn end<N: Staged>(
     tops: &[Top],
     kind: ChildKind,
     parent: Parent,
-    outcome: Outcome<N::Seal>,
+    outcome: Box<Outcome<N::Seal>>,
 ) -> Result<Step<N::Seal>, NoMemory>
-    requires can { CanEnd N.nodes N.over tops.now nodes.old kind parent outcome }
-    requires inside { OutcomeIn (N.tree_over tops.now) outcome }
+    requires can { CanEnd N.nodes N.over tops.now nodes.old kind parent outcome.value }
+    requires inside { OutcomeIn (N.tree_over tops.now) outcome.value }
     ensures ended { IfOk result
-        (HasEnded N.nodes N.over tops.now nodes.old line.old nodes.new line.new kind parent outcome) }
+        (HasEnded N.nodes N.over tops.now nodes.old line.old nodes.new line.new kind parent outcome.value) }
     ensures inside { IfOk result (StepIn (N.tree_over tops.now)) }
 {
+    let outcome = Box::into_inner(outcome);
     match parent {
         Parent::Tree { tree, .. } => Ok(Step::Root(tree, outcome)),
         Parent::Node { key, child } => {

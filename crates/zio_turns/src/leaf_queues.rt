@@ -20,7 +20,8 @@ use std::alloc::Global;
 use zio_disks::{Setting, Stop};
 use zio_groups::{Answered, LeafQueue};
 use zio_outside::Disk;
-use zio_types::{Bytes, List, NoMemory};
+use zio_shared::Shared;
+use zio_types::{List, NoMemory};
 use zio_vqueue::Op;
 
 /// A queue for each leaf, by number. An operation's ticket there is the key of its node.
@@ -45,7 +46,7 @@ impl Queues {
 
     /// The operation waits at the leaf under this key, under which none waits, with the bytes of a write. Where memory
     /// is refused nothing has changed, and the bytes are dropped.
-    pub fn put(&mut self, leaf: u32, key: usize, op: Op, bytes: Bytes) -> Result<(), NoMemory>
+    pub fn put(&mut self, leaf: u32, key: usize, op: Op, bytes: Shared) -> Result<(), NoMemory>
         requires there { leaf < length self.old.leaves.items }
         requires fits { FitsDevice op }
         requires apart { times_in key (keys_at self.old.leaves.items) ≡ 0 }
@@ -59,7 +60,7 @@ impl Queues {
             ticket: key as u64,
             ..op
         };
-        self.leaves[leaf as usize].put(op, cut_to(bytes, len))
+        self.leaves[leaf as usize].put(op, bytes.front(len))
     }
 
     /// How many leaves have a group to issue. Where there is none nothing waits.
@@ -118,15 +119,6 @@ impl Queues {
         }
         unreachable!()
     }
-}
-
-/// The first so many bytes, as many as there are.
-fn cut_to(bytes: Bytes, len: usize) -> Bytes
-    ensures { result ≡ take len bytes }
-{
-    let mut items = bytes.into_vec();
-    items.truncate(len);
-    List::from_vec(items)
 }
 
 /// An operation that a node hands to its leaf fits a queue where it ends with tops that aren't too long; it ends on its

@@ -3,4 +3,7 @@ use Rattle.zio_groups.specs.Spans.{part_answered}
 use Rattle.zio_groups.proofs.span.parts_of.Given as goal
 
 abbrev pub invariant-loop-member : goal.invariant-loop-member
-invariant-loop-member l = l.answers ≡ map (part_answered l.group.at l.span) (take l.member-index l.members)
+invariant-loop-member l = record {
+  same : l.span ≡ l.fn.span;
+  so_far : l.answers ≡ map (part_answered l.group.at l.fn.span) (take l.member-index l.members);
+}

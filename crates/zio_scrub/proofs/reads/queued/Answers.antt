@@ -47,12 +47,12 @@ loop-number-preserved c =
     let v = c.copy.view_is in
     let is : c.read_op-op.result ≡ read_op c.loop-number.number c.index-copies-number.result.spot =
     c.read_op-op.ensures in
-    let put : IsPut c.index-copies-number.result.spot.leaf (waiting_with c.read_op-op.result c.new-in-loop-number.result) c.loop-number.queues.leaves.items
+    let put : IsPut c.index-copies-number.result.spot.leaf (waiting_with c.read_op-op.result c.alone.result) c.loop-number.queues.leaves.items
     c.put.new.self.leaves.items =
-    subst (λ (r : CopyAt). IsPut r.spot.leaf (waiting_with c.read_op-op.result c.new-in-loop-number.result) c.loop-number.queues.leaves.items c.put.new.self.leaves.items) v
+    subst (λ (r : CopyAt). IsPut r.spot.leaf (waiting_with c.read_op-op.result c.alone.result) c.loop-number.queues.leaves.items c.put.new.self.leaves.items) v
     c.in_ok-put.ensures.ok in
     record {
-      have = read_put c.args.copies.now c.loop-number.number (c.loop-number.number + 1) c.index-copies-number.result c.read_op-op.result c.new-in-loop-number.result
+      have = read_put c.args.copies.now c.loop-number.number (c.loop-number.number + 1) c.index-copies-number.result c.read_op-op.result c.alone.result
           c.loop-number.queues.leaves.items c.put.new.self.leaves.items at is put c.loop-number.invariant.have refl;
       order = c.in_ok-put.ensures.order;
       count = put.count ∙ c.loop-number.invariant.count;

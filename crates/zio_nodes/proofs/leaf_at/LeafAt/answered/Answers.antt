@@ -10,14 +10,15 @@ use Rattle.zio_nodes.specs.declared.leaf_at.LeafAt.{LeafAt}
 use Rattle.zio_nodes.proofs.LeafLemmas.{answer_shown, answered_left, unheard_stands}
 use Rattle.zio_nodes.proofs.StageLemmas.{leaf_out}
 use Rattle.zio_nodes.proofs.leaf_at.LeafAt.answered.Goals as goal
-use Rattle.zio_nodes.proofs.leaf_at.LeafAt.answered.Goals.{then-not-self, else-not-self}
+use Rattle.zio_nodes.proofs.leaf_at.LeafAt.answered.Goals.{then-not-self+in-One-1, then-not-self+in-Many-1, else-not-self}
 
 pub returns-clause-heard : goal.returns-clause-heard
 returns-clause-heard c = λ t act a h shows.
     let work : LeafWork = c.if-not-self.self.work in
     let P : LeafAt → Type 0 = λ at. IsLeafWork t at.work (fresh_frame (Leaf act)) in
     let part : IsLeafWork t work (fresh_frame (Leaf act)) = elim c.if-not-self.branch [
-      | then-not-self w ↦ subst P (sym w.self-is) (w.hand_out.ensures.related t (fresh_frame (Leaf act)) h.part)
+      | then-not-self+in-One-1 w ↦ subst P (sym w.self-is) (w.hand_out.ensures.related t (fresh_frame (Leaf act)) h.part)
+      | then-not-self+in-Many-1 w ↦ subst P (sym w.self-is) (w.hand_out.ensures.related t (fresh_frame (Leaf act)) h.part)
       | else-not-self w ↦ subst P (sym w.self-is) h.part
     ] in
     let cut : c.from_vec.result ≡ take (len_of work) c.args.bytes =

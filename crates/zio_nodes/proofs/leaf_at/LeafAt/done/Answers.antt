@@ -6,6 +6,6 @@ use Rattle.zio_nodes.proofs.leaf_at.LeafAt.done.Goals as goal
 
 pub returns-clause-moves : goal.returns-clause-moves
 returns-clause-moves c = λ tops t st now.
-    leaf_ends t c.args.self st c.into_found.result now.is c.requires.stage
-    (subst (λ (s : Stage). LeafStands s c.args.self.is_out c.args.self.work) c.requires.stage c.requires.stands)
-    (λ a e. c.into_found.ensures t st.outer a now.is.part e)
+    leaf_ends t c.args.self.now st c.take_found.result now.is c.requires.stage
+    (subst (λ (s : Stage). LeafStands s c.args.self.now.is_out c.args.self.now.work) c.requires.stage c.requires.stands)
+    (λ a e. c.take_found.ensures t st.outer a now.is.part e)

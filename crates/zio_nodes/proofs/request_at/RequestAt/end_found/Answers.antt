@@ -13,7 +13,7 @@ use Rattle.zio_nodes.proofs.request_at.RequestAt.end_found.Goals as goal
 
 pub returns-in-Ok-clause-moves : goal.returns-in-Ok-clause-moves
 returns-in-Ok-clause-moves c = λ tops.
-    let at = c.args.self in
+    let at = c.args.self.now in
     let found = c.requires.found in
     let end = c.in-Ok.ensures.ends in
     let by = end.2 in
@@ -24,10 +24,11 @@ returns-in-Ok-clause-moves c = λ tops.
 pub returns-in-Ok-clause-over : goal.returns-in-Ok-clause-over
 returns-in-Ok-clause-over c = λ tops h.
     let by = c.in-Ok.ensures.ends.2 in
-    subst (λ (o : Outcome). OutcomeIn (IsTreeOver tops) o) (sym by.is) (left_over tops c.args.self.node by.closed (closed_label c.args.self.node.attempt by.closed) h.over by.list)
+    subst (λ (o : Outcome). OutcomeIn (IsTreeOver tops) o) (sym by.is) (left_over tops c.args.self.now.node by.closed (closed_label c.args.self.now.node.attempt by.closed) h.over by.list)
 
 pub returns-in-Ok-clause-left : goal.returns-in-Ok-clause-left
 returns-in-Ok-clause-left c = λ pays. pays
 
 pub returns-in-Err-clause-refused : goal.returns-in-Err-clause-refused
-returns-in-Err-clause-refused c = λ tops. refused_bare tops c.args.self _ c.args.self.stage c.args.self.is_due c.in-Err.ensures.back refl
+returns-in-Err-clause-refused c = λ tops.
+    refused_bare tops c.args.self.now c.close_found.new.self c.args.self.now.stage c.args.self.now.is_due c.in-Err.ensures.same refl

@@ -10,7 +10,7 @@ use Rattle.zio_nodes.specs.OwnAts.{IsFreeAtStage}
 use Rattle.zio_nodes.specs.declared.node.Node.TheVariants.{Request}
 use Rattle.zio_nodes.specs.declared.request_at.RequestAt.{RequestAt}
 use Rattle.zio_nodes.proofs.OwnBare.{waits_bare}
-use Rattle.zio_nodes.proofs.OwnEnds.{IsSame, err_map, lessens_from, moves_from, ok_map, stays_from}
+use Rattle.zio_nodes.proofs.OwnEnds.{IsSame, lessens_from, moves_from, stays_from}
 use Rattle.zio_nodes.proofs.OwnLefts.{free_gave_same, free_less, free_own_left, own_pays, still_free}
 use Rattle.zio_nodes.proofs.OwnOver.{free_no_write, free_over, free_stands, handed_at, is_free, not_start}
 use Rattle.zio_nodes.proofs.FreeLemmas.{ended_less, ended_pays, ended_same, found_stands}
@@ -18,20 +18,20 @@ use Rattle.zio_nodes.proofs.request_at.RequestAt.free_done.Goals as goal
 
 pub returns-in-Wait-clause-moves : goal.returns-in-Wait-clause-moves
 returns-in-Wait-clause-moves c = λ tops.
-    let at = c.args.self in
+    let at = c.args.self.now in
     let behind = not_start at.stage Done c.requires.stage (λ e. cc) in
     let handed = handed_at c.requires.over.0 at c.requires.over.1 behind in
     waits_bare tops at c.in-Wait.kind DonePhase (λ t st same seated is. c.done_null.ensures.wait c.in-Wait.kind c.in-Wait.is t st seated is handed)
 
 pub end_free-requires : goal.end_free-requires
 end_free-requires c =
-    let at = c.args.self in
+    let at = c.args.self.now in
     let work = is_free at.node.waiting.request.work c.requires.kind in
     (free_stands c.requires.over.0 at Done work c.requires.over.1 c.requires.stage (λ e. cc)).0
 
 pub end_found-requires : goal.end_found-requires
 end_found-requires c =
-    let at = c.args.self in
+    let at = c.args.self.now in
     let r = at.node in
     let work = is_free r.waiting.request.work c.requires.kind in
     let behind = not_start at.stage Done c.requires.stage (λ e. cc) in
@@ -52,7 +52,7 @@ end_found-requires c =
 
 pub returns-clause-moves : goal.returns-clause-moves
 returns-clause-moves c = λ tops.
-    let at = c.args.self in
+    let at = c.args.self.now in
     let r = at.node in
     let work = is_free r.waiting.request.work c.requires.kind in
     let new = c.end_free.new.self in
@@ -65,11 +65,11 @@ returns-clause-moves c = λ tops.
           (ended_same r.own new.own r.waiting.block now.0 now.1 c.end_free.ensures.error c.end_free.ensures.found
           (λ f. ap (λ x. x.own) (c.end_free.ensures.still f)));
     } in
-    ok_map c.end_found.result (moves_from tops at b same) (c.end_found.ensures.moves tops)
+    moves_from tops at b (Request c.end_found.new.self) c.end_found.result same (c.end_found.ensures.moves tops)
 
 pub returns-clause-over : goal.returns-clause-over
 returns-clause-over c = λ tops h.
-    let at = c.args.self in
+    let at = c.args.self.now in
     let r = at.node in
     let work = is_free r.waiting.request.work c.requires.kind in
     let behind = not_start at.stage Done c.requires.stage (λ e. cc) in
@@ -80,7 +80,7 @@ returns-clause-over c = λ tops h.
 
 pub returns-clause-left : goal.returns-clause-left
 returns-clause-left c =
-    let at = c.args.self in
+    let at = c.args.self.now in
     let r = at.node in
     let work = is_free r.waiting.request.work c.requires.kind in
     let behind = not_start at.stage Done c.requires.stage (λ e. cc) in
@@ -88,11 +88,11 @@ returns-clause-left c =
     let b : RequestAt = record { node = new; stage = at.stage; is_due = at.is_due } in
     let less = free_less at new at.stage at.is_due 0 work behind behind c.end_free.ensures.rest (ended_less r.own new.own at.stage c.end_free.ensures.found) in
     let pays = own_pays b told_cost _ (free_own_left b (still_free r new c.end_free.ensures.rest work) behind) (ended_pays new.own at.stage c.requires.stage) in
-    ok_map c.end_found.result (lessens_from (Request at) (Request b) (omega (arith, less))) (c.end_found.ensures.left pays)
+    lessens_from (Request at) (Request b) (Request c.end_found.new.self) c.end_found.result (omega (arith, less)) (c.end_found.ensures.left pays)
 
 pub returns-clause-refused : goal.returns-clause-refused
 returns-clause-refused c = λ tops.
-    let at = c.args.self in
+    let at = c.args.self.now in
     let r = at.node in
     let work = is_free r.waiting.request.work c.requires.kind in
     let new = c.end_free.new.self in
@@ -105,4 +105,4 @@ returns-clause-refused c = λ tops.
           (ended_same r.own new.own r.waiting.block now.0 now.1 c.end_free.ensures.error c.end_free.ensures.found
           (λ f. ap (λ x. x.own) (c.end_free.ensures.still f)));
     } in
-    err_map c.end_found.result (stays_from tops at b same) (c.end_found.ensures.refused tops)
+    stays_from tops at b (Request c.end_found.new.self) c.end_found.result same (c.end_found.ensures.refused tops)

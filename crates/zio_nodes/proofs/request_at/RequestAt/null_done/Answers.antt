@@ -2,10 +2,8 @@ use Rattle.std.proofs.Common.{[], ap, refl, subst, sym, ◌∙◌}
 use Rattle.zio_masks.specs.declared.stage.Stage.{Stage}
 use Rattle.zio_staged.specs.Stages.{Ends, OutcomeIn}
 use Rattle.zio_stages.specs.Labels.{closed_label}
-use Rattle.zio_stages.specs.RequestNodes.{IsRequestNode}
 use Rattle.zio_stages.specs.Sealed.{Outcome}
 use Rattle.zio_stages.specs.declared.request_node.OwnFound.{OwnFound}
-use Rattle.zio_stages.specs.declared.request_node.RequestNode.{RequestNode}
 use Rattle.zio_nodes.specs.Nodes.{gave_of, nodes}
 use Rattle.zio_nodes.specs.RequestAts.{AreOutBehind}
 use Rattle.zio_nodes.specs.Told.{is_told}
@@ -14,18 +12,18 @@ use Rattle.zio_nodes.specs.declared.node.Node.{Node}
 use Rattle.zio_nodes.specs.declared.node.Node.TheVariants.{Request}
 use Rattle.zio_nodes.proofs.LeftLemmas.{left_over}
 use Rattle.zio_nodes.proofs.NullLemmas.{null_done_due, null_none_ended, null_places}
-use Rattle.zio_nodes.proofs.RequestMoves.{request_ends, request_goes, request_waits}
-use Rattle.zio_nodes.proofs.WriteLemmas.{same_gave}
+use Rattle.zio_nodes.proofs.OwnBare.{refused_bare}
+use Rattle.zio_nodes.proofs.RequestMoves.{request_ends, request_waits}
 use Rattle.zio_nodes.proofs.request_at.RequestAt.null_done.Goals as goal
 
 pub returns-in-Wait-clause-moves : goal.returns-in-Wait-clause-moves
 returns-in-Wait-clause-moves c = λ tops t st now.
-    let out = subst (λ (s : Stage). AreOutBehind s c.args.self.node.kids.kids) c.requires.stage c.requires.over.1.stands.out in
-    request_waits t st c.args.self c.args.self c.in-Wait.kind _ now.is refl refl (c.done_null.ensures.wait c.in-Wait.kind c.in-Wait.is t st now.seated now.is out)
+    let out = subst (λ (s : Stage). AreOutBehind s c.args.self.now.node.kids.kids) c.requires.stage c.requires.over.1.stands.out in
+    request_waits t st c.args.self.now c.args.self.now c.in-Wait.kind _ now.is refl refl (c.done_null.ensures.wait c.in-Wait.kind c.in-Wait.is t st now.seated now.is out)
 
 pub returns-in-Ok-clause-moves : goal.returns-in-Ok-clause-moves
 returns-in-Ok-clause-moves c = λ tops t st now.
-    let at = c.args.self in
+    let at = c.args.self.now in
     let due = null_done_due c.requires.over.0 at.stage at.is_due at.node c.requires.kind c.requires.stage c.requires.over.1.stands in
     let end = c.in-Ok.ensures.ends in
     let by = end.2 in
@@ -37,11 +35,9 @@ returns-in-Ok-clause-moves c = λ tops t st now.
 pub returns-in-Ok-clause-over : goal.returns-in-Ok-clause-over
 returns-in-Ok-clause-over c = λ tops h.
     let by = c.in-Ok.ensures.ends.2 in
-    let label = closed_label c.args.self.node.attempt by.closed in
-    subst (λ (o : Outcome). OutcomeIn (IsTreeOver tops) o) (sym by.is) (left_over tops c.args.self.node by.closed label h.over by.list)
+    let label = closed_label c.args.self.now.node.attempt by.closed in
+    subst (λ (o : Outcome). OutcomeIn (IsTreeOver tops) o) (sym by.is) (left_over tops c.args.self.now.node by.closed label h.over by.list)
 
 pub returns-in-Err-clause-refused : goal.returns-in-Err-clause-refused
-returns-in-Err-clause-refused c = λ tops t st now.
-    let same = c.in-Err.ensures.back in
-    request_goes t st c.args.self _ (subst (λ (r : RequestNode). IsRequestNode t r st) (sym same) now.is) (sym (ap is_told c.requires.stage))
-    (same_gave c.args.self.node c.in-Err.field-0.node same)
+returns-in-Err-clause-refused c = λ tops.
+    refused_bare tops c.args.self.now c.close_null.new.self c.args.self.now.stage c.args.self.now.is_due c.in-Err.ensures.same refl

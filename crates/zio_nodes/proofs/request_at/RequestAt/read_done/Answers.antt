@@ -10,7 +10,7 @@ use Rattle.zio_nodes.specs.OwnAts.{HasReadAll, IsReadAtStage}
 use Rattle.zio_nodes.specs.declared.node.Node.TheVariants.{Request}
 use Rattle.zio_nodes.specs.declared.request_at.RequestAt.{RequestAt}
 use Rattle.zio_nodes.proofs.OwnBare.{refused_bare, waits_bare}
-use Rattle.zio_nodes.proofs.OwnEnds.{IsSame, err_map, lessens_from, moves_from, ok_map, stays_from}
+use Rattle.zio_nodes.proofs.OwnEnds.{IsSame, lessens_from, moves_from, stays_from}
 use Rattle.zio_nodes.proofs.OwnLefts.{read_gave_same, read_less, read_own_left, own_pays, still_read}
 use Rattle.zio_nodes.proofs.OwnOver.{read_no_write, read_over, read_stands, handed_at, is_read, not_start}
 use Rattle.zio_nodes.proofs.ReadStages.{ended_less, ended_pays, found_stands, none_more_own, with_map}
@@ -18,13 +18,13 @@ use Rattle.zio_nodes.proofs.request_at.RequestAt.read_done.Goals as goal
 
 pub returns-in-Wait-clause-moves : goal.returns-in-Wait-clause-moves
 returns-in-Wait-clause-moves c = λ tops.
-    let at = c.args.self in
+    let at = c.args.self.now in
     let behind = not_start at.stage Done c.requires.stage (λ e. cc) in
     waits_bare tops at c.in-Wait.kind DonePhase (λ t st same seated is. c.done_read.ensures.wait c.in-Wait.kind c.in-Wait.is t st seated is)
 
 pub done_read-requires : goal.done_read-requires
 done_read-requires c =
-    let at = c.args.self in
+    let at = c.args.self.now in
     let work = is_read at.node.waiting.request.work c.requires.kind in
     let behind = not_start at.stage Done c.requires.stage (λ e. cc) in
     let now = read_stands c.requires.over.0 at Done work c.requires.over.1 c.requires.stage (λ e. cc) in
@@ -32,29 +32,29 @@ done_read-requires c =
 
 pub unreachable-requires : goal.unreachable-requires
 unreachable-requires c =
-    let at = c.args.self in
+    let at = c.args.self.now in
     let work = is_read at.node.waiting.request.work c.requires.kind in
     let now = read_stands c.requires.over.0 at Done work c.requires.over.1 c.requires.stage (λ e. cc) in
     none_more_own at.node.own now (c.done_read.ensures.more c.in-More.is)
 
-pub end_read-ended-requires : goal.end_read-ended-requires
-end_read-ended-requires c = (c.done_read.ensures.close c.in-Close.is).0
+pub end_read-requires : goal.end_read-requires
+end_read-requires c = (c.done_read.ensures.close c.in-Close.is).0
 
 pub end_found-requires : goal.end_found-requires
 end_found-requires c =
-    let at = c.args.self in
+    let at = c.args.self.now in
     let r = at.node in
     let work = is_read r.waiting.request.work c.requires.kind in
     let behind = not_start at.stage Done c.requires.stage (λ e. cc) in
     let over = c.requires.over in
-    let new = c.end_read-ended.new.self in
+    let new = c.end_read.new.self in
     record {
       found = c.in-Ok.ensures.found;
-      ended = ap (λ x. list_all is_ended x.kids.kids) c.end_read-ended.ensures.kids ∙ (c.done_read.ensures.close c.in-Close.is).1;
-      other = read_no_write new.waiting.request.work (still_read r new c.end_read-ended.ensures.rest work);
+      ended = ap (λ x. list_all is_ended x.kids.kids) c.end_read.ensures.kids ∙ (c.done_read.ensures.close c.in-Close.is).1;
+      other = read_no_write new.waiting.request.work (still_read r new c.end_read.ensures.rest work);
       over = (
         over.0,
-        read_over over.0 at new at.stage at.is_due work over.1 behind c.end_read-ended.ensures.rest (c.end_read-ended.ensures.over over.0 over.1.over.own)
+        read_over over.0 at new at.stage at.is_due work over.1 behind c.end_read.ensures.rest (c.end_read.ensures.over over.0 over.1.over.own)
             (subst (λ (s : Stage). IsReadAtStage over.0 s at.is_due new.own new.waiting.block) (sym c.requires.stage)
             (found_stands HasReadAll new.own c.in-Ok.ensures.found)),
       );
@@ -63,54 +63,54 @@ end_found-requires c =
 
 pub returns-in-Ok-clause-moves : goal.returns-in-Ok-clause-moves
 returns-in-Ok-clause-moves c = λ tops.
-    let at = c.args.self in
+    let at = c.args.self.now in
     let r = at.node in
     let work = is_read r.waiting.request.work c.requires.kind in
-    let new = c.end_read-ended.new.self in
+    let new = c.end_read.new.self in
     let b : RequestAt = record { node = new; stage = at.stage; is_due = at.is_due } in
     let same : IsSame at b = record {
       is = c.in-Ok.ensures.ends;
       told = refl;
-      gave = read_gave_same r new work c.end_read-ended.ensures.rest;
+      gave = read_gave_same r new work c.end_read.ensures.rest;
     } in
-    ok_map c.end_found.result (moves_from tops at b same) (c.end_found.ensures.moves tops)
+    moves_from tops at b (Request c.end_found.new.self) c.end_found.result same (c.end_found.ensures.moves tops)
 
 pub returns-in-Ok-clause-over : goal.returns-in-Ok-clause-over
 returns-in-Ok-clause-over c = λ tops h.
-    let at = c.args.self in
+    let at = c.args.self.now in
     let r = at.node in
     let work = is_read r.waiting.request.work c.requires.kind in
     let behind = not_start at.stage Done c.requires.stage (λ e. cc) in
-    let new = c.end_read-ended.new.self in
-    c.end_found.ensures.over tops (read_over tops at new at.stage at.is_due work h behind c.end_read-ended.ensures.rest (c.end_read-ended.ensures.over tops h.over.own)
+    let new = c.end_read.new.self in
+    c.end_found.ensures.over tops (read_over tops at new at.stage at.is_due work h behind c.end_read.ensures.rest (c.end_read.ensures.over tops h.over.own)
     (subst (λ (s : Stage). IsReadAtStage tops s at.is_due new.own new.waiting.block) (sym c.requires.stage)
     (found_stands HasReadAll new.own c.in-Ok.ensures.found)))
 
 pub returns-in-Ok-clause-left : goal.returns-in-Ok-clause-left
 returns-in-Ok-clause-left c =
-    let at = c.args.self in
+    let at = c.args.self.now in
     let r = at.node in
     let work = is_read r.waiting.request.work c.requires.kind in
     let behind = not_start at.stage Done c.requires.stage (λ e. cc) in
-    let new = c.end_read-ended.new.self in
+    let new = c.end_read.new.self in
     let b : RequestAt = record { node = new; stage = at.stage; is_due = at.is_due } in
-    let less = read_less at new at.stage at.is_due 0 work behind behind c.end_read-ended.ensures.rest (ended_less r.own new.own at.stage at.is_due c.in-Ok.ensures.found) in
-    let pays = own_pays b told_cost _ (read_own_left b (still_read r new c.end_read-ended.ensures.rest work) behind) (ended_pays new.own at.stage at.is_due c.requires.stage) in
-    ok_map c.end_found.result (lessens_from (Request at) (Request b) (omega (arith, less))) (c.end_found.ensures.left pays)
+    let less = read_less at new at.stage at.is_due 0 work behind behind c.end_read.ensures.rest (ended_less r.own new.own at.stage at.is_due c.in-Ok.ensures.found) in
+    let pays = own_pays b told_cost _ (read_own_left b (still_read r new c.end_read.ensures.rest work) behind) (ended_pays new.own at.stage at.is_due c.requires.stage) in
+    lessens_from (Request at) (Request b) (Request c.end_found.new.self) c.end_found.result (omega (arith, less)) (c.end_found.ensures.left pays)
 
 pub returns-in-Ok-clause-refused : goal.returns-in-Ok-clause-refused
 returns-in-Ok-clause-refused c = λ tops.
-    let at = c.args.self in
+    let at = c.args.self.now in
     let r = at.node in
     let work = is_read r.waiting.request.work c.requires.kind in
-    let new = c.end_read-ended.new.self in
+    let new = c.end_read.new.self in
     let b : RequestAt = record { node = new; stage = at.stage; is_due = at.is_due } in
     let same : IsSame at b = record {
       is = c.in-Ok.ensures.ends;
       told = refl;
-      gave = read_gave_same r new work c.end_read-ended.ensures.rest;
+      gave = read_gave_same r new work c.end_read.ensures.rest;
     } in
-    err_map c.end_found.result (stays_from tops at b same) (c.end_found.ensures.refused tops)
+    stays_from tops at b (Request c.end_found.new.self) c.end_found.result same (c.end_found.ensures.refused tops)
 
 pub returns-in-Err-clause-refused : goal.returns-in-Err-clause-refused
-returns-in-Err-clause-refused c = λ tops. refused_bare tops c.args.self c.end_read-ended.new.self c.args.self.stage c.args.self.is_due c.in-Err.ensures.err refl
+returns-in-Err-clause-refused c = λ tops. refused_bare tops c.args.self.now c.end_read.new.self c.args.self.now.stage c.args.self.now.is_due c.in-Err.ensures.err refl

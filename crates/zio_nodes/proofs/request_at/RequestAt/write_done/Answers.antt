@@ -22,40 +22,40 @@ pub write_end-requires-clause-stored : goal.write_end-requires-clause-stored
 write_end-requires-clause-stored g c = sym c.is_stored.ensures ∙ c.if-is_stored.true
 
 pub returns-then-is_stored-clause-last : goal.returns-then-is_stored-clause-last
-returns-then-is_stored-clause-last g c = ends_last c.write_end.result c.write_end.ensures.ends
+returns-then-is_stored-clause-last g c = ends_last (Request c.write_end.new.self) c.write_end.result c.write_end.ensures.ends
 
 pub done_write-requires : goal.done_write-requires
 done_write-requires g c =
-    let at = c.args.self in
+    let at = c.args.self.now in
     still_written at.node
     (stands_in (g.S.Services.tops c.args.services.now) at.stage Done at.is_due at.node c.requires.kind c.requires.stage tt c.requires.over.stands)
     (sym c.is_stored.ensures ∙ c.if-is_stored.false)
 
 pub returns-in-Wait-clause-moves : goal.returns-in-Wait-clause-moves
 returns-in-Wait-clause-moves g c =
-    let at = c.args.self in
+    let at = c.args.self.now in
     let tops = g.S.Services.tops c.args.services.now in
     let out = all_out tops at.stage Done at.is_due at.node c.requires.stage tt c.requires.over.stands in
     moves_with g.S.Services.made tops c.args.services.now (Request at) _ (g.met.S.Services.made_none c.args.services.now)
     (λ t st now. request_waits t st at at c.in-Wait.kind _ now.is refl refl (c.done_write.ensures.wait c.in-Wait.kind c.in-Wait.is t st now.seated now.is out))
 
-pub end_write-ended-requires : goal.end_write-ended-requires
-end_write-ended-requires g c = (c.done_write.ensures.close c.in_default.is).0
+pub end_write-requires : goal.end_write-requires
+end_write-requires g c = (c.done_write.ensures.close c.in_default.is).0
 
 pub returns-in-Err-clause-refused : goal.returns-in-Err-clause-refused
 returns-in-Err-clause-refused g c =
-    let at = c.args.self in
-    let new = c.end_write-ended.new.self in
+    let at = c.args.self.now in
+    let new = c.end_write.new.self in
     let same = c.in-Err.ensures.err in
     stays_with g.S.Services.made (g.S.Services.tops c.args.services.now) c.args.services.now (Request at) _ (g.met.S.Services.made_none c.args.services.now)
     (λ t st now. request_goes t st at _ (subst (λ (r : RequestNode). IsRequestNode t r st) (sym same) now.is) refl (same_gave at.node new same))
 
 pub write_end-requires-in-Ok-clause-over : goal.write_end-requires-in-Ok-clause-over
 write_end-requires-in-Ok-clause-over g c =
-    let at = c.args.self in
+    let at = c.args.self.now in
     let tops = g.S.Services.tops c.args.services.now in
-    let new = c.end_write-ended.new.self in
-    let rest = c.end_write-ended.ensures.rest in
+    let new = c.end_write.new.self in
+    let rest = c.end_write.ensures.rest in
     let kind = ap (λ (r : RequestNode). kind_of r.waiting.request.work) rest ∙ c.requires.kind in
     let out = all_out tops at.stage Done at.is_due at.node c.requires.stage tt c.requires.over.stands in
     let same = sym (ap (λ (r : RequestNode). r.kids) rest) in
@@ -72,45 +72,45 @@ write_end-requires-in-Ok-clause-over g c =
 
 pub returns-in-Ok-clause-moves : goal.returns-in-Ok-clause-moves
 returns-in-Ok-clause-moves g c =
-    let at = c.args.self in
-    let new = c.end_write-ended.new.self in
+    let at = c.args.self.now in
+    let new = c.end_write.new.self in
     let mid : RequestAt = record { node = new; stage = at.stage; is_due = at.is_due } in
-    let rest = c.end_write-ended.ensures.rest in
+    let rest = c.end_write.ensures.rest in
     let kind = ap (λ (r : RequestNode). kind_of r.waiting.request.work) rest ∙ c.requires.kind in
     let unstored = sym c.is_stored.ensures ∙ c.if-is_stored.false in
     let gave = write_gave new kind ∙ ap (λ n. take n (made_by new.own)) c.in-Ok.ensures.none ∙ sym (none_gave at.node c.requires.kind unstored) in
-    ends_behind g.S.Services.made (g.S.Services.tops c.args.services.now) c.args.services.now c.write_end-in-Ok.new.services at mid
+    ends_behind g.S.Services.made (g.S.Services.tops c.args.services.now) c.args.services.now c.write_end-in-Ok.new.services at mid (Request c.write_end-in-Ok.new.self)
     c.write_end-in-Ok.result c.requires.stage refl gave
     (λ t st now. c.in-Ok.ensures.ends t st now.is) c.write_end-in-Ok.ensures.ends c.write_end-in-Ok.ensures.moves
 
 pub returns-in-Ok-clause-refused : goal.returns-in-Ok-clause-refused
 returns-in-Ok-clause-refused g c =
-    let at = c.args.self in
-    let new = c.end_write-ended.new.self in
+    let at = c.args.self.now in
+    let new = c.end_write.new.self in
     let mid : RequestAt = record { node = new; stage = at.stage; is_due = at.is_due } in
-    let rest = c.end_write-ended.ensures.rest in
+    let rest = c.end_write.ensures.rest in
     let kind = ap (λ (r : RequestNode). kind_of r.waiting.request.work) rest ∙ c.requires.kind in
     let unstored = sym c.is_stored.ensures ∙ c.if-is_stored.false in
     let gave = write_gave new kind ∙ ap (λ n. take n (made_by new.own)) c.in-Ok.ensures.none ∙ sym (none_gave at.node c.requires.kind unstored) in
-    stays_behind g.S.Services.made (g.S.Services.tops c.args.services.now) c.args.services.now c.write_end-in-Ok.new.services at mid
+    stays_behind g.S.Services.made (g.S.Services.tops c.args.services.now) c.args.services.now c.write_end-in-Ok.new.services at mid (Request c.write_end-in-Ok.new.self)
     c.write_end-in-Ok.result c.requires.stage refl gave
     (λ t st now. c.in-Ok.ensures.ends t st now.is) c.write_end-in-Ok.ensures.refused
 
 pub returns-in-Ok-clause-left : goal.returns-in-Ok-clause-left
 returns-in-Ok-clause-left g c =
-    let at = c.args.self in
-    let new = c.end_write-ended.new.self in
+    let at = c.args.self.now in
+    let new = c.end_write.new.self in
     let mid : RequestAt = record { node = new; stage = at.stage; is_due = at.is_due } in
-    let rest = c.end_write-ended.ensures.rest in
+    let rest = c.end_write.ensures.rest in
     let kind = ap (λ (r : RequestNode). kind_of r.waiting.request.work) rest ∙ c.requires.kind in
     let unstored = sym c.is_stored.ensures ∙ c.if-is_stored.false in
-    left_behind at mid c.write_end-in-Ok.result
+    left_behind at mid (Request c.write_end-in-Ok.new.self) c.write_end-in-Ok.result
     (write_less at mid Done Done c.requires.kind kind c.requires.stage c.requires.stage tt tt (ap (λ (r : RequestNode). r.kids.due) rest)
     (omega (arith, ap end_left (is_stored_with _ new.own c.in-Ok.ensures.stored), ap end_left unstored)))
     c.write_end-in-Ok.ensures.ends c.write_end-in-Ok.ensures.left
 
 pub returns-in-Ok-clause-last : goal.returns-in-Ok-clause-last
-returns-in-Ok-clause-last g c = ends_last c.write_end-in-Ok.result c.write_end-in-Ok.ensures.ends
+returns-in-Ok-clause-last g c = ends_last (Request c.write_end-in-Ok.new.self) c.write_end-in-Ok.result c.write_end-in-Ok.ensures.ends
 
 pub write_end-requires-in-Ok-clause-stored : goal.write_end-requires-in-Ok-clause-stored
-write_end-requires-in-Ok-clause-stored g c = is_stored_with _ c.end_write-ended.new.self.own c.in-Ok.ensures.stored
+write_end-requires-in-Ok-clause-stored g c = is_stored_with _ c.end_write.new.self.own c.in-Ok.ensures.stored

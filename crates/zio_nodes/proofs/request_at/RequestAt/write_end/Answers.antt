@@ -25,14 +25,14 @@ use Rattle.zio_nodes.proofs.request_at.RequestAt.write_end.Goals as goal
 
 pub give_block_back-requires : goal.give_block_back-requires
 give_block_back-requires g c =
-    let at = c.args.self in
+    let at = c.args.self.now in
     let k = giving_back at.node (stands_in (g.S.Services.tops c.args.services.now) at.stage Done at.is_due at.node c.requires.kind c.requires.stage tt c.requires.over.stands)
     c.requires.stored in
     record { stored = k.stored; ended = k.ended }
 
 pub returns-in_default-clause-refused : goal.returns-in_default-clause-refused
 returns-in_default-clause-refused g c =
-    let at = c.args.self in
+    let at = c.args.self.now in
     let mid = c.give_block_back.new.self in
     let tops = g.S.Services.tops c.args.services.now in
     let k = giving_back at.node (stands_in tops at.stage Done at.is_due at.node c.requires.kind c.requires.stage tt c.requires.over.stands) c.requires.stored in
@@ -49,7 +49,7 @@ returns-in_default-clause-refused g c =
 
 pub returns-in-Ok-close_write-clause-moves : goal.returns-in-Ok-close_write-clause-moves
 returns-in-Ok-close_write-clause-moves g c =
-    let at = c.args.self in
+    let at = c.args.self.now in
     let mid = c.give_block_back.new.self in
     let tops = g.S.Services.tops c.args.services.now in
     let k = giving_back at.node (stands_in tops at.stage Done at.is_due at.node c.requires.kind c.requires.stage tt c.requires.over.stands) c.requires.stored in
@@ -75,7 +75,7 @@ returns-in-Ok-close_write-clause-moves g c =
 
 pub returns-in-Ok-close_write-clause-over : goal.returns-in-Ok-close_write-clause-over
 returns-in-Ok-close_write-clause-over g c =
-    let at = c.args.self in
+    let at = c.args.self.now in
     let mid = c.give_block_back.new.self in
     let tops = g.S.Services.tops c.args.services.now in
     let over = c.requires.over.over in
@@ -87,19 +87,19 @@ returns-in-Ok-close_write-clause-over g c =
 
 pub returns-in-Err-clause-refused : goal.returns-in-Err-clause-refused
 returns-in-Err-clause-refused g c =
-    let at = c.args.self in
+    let at = c.args.self.now in
     let mid = c.give_block_back.new.self in
     let tops = g.S.Services.tops c.args.services.now in
     let k = giving_back at.node (stands_in tops at.stage Done at.is_due at.node c.requires.kind c.requires.stage tt c.requires.over.stands) c.requires.stored in
     let gives = c.give_block_back.ensures.gives in
     let more : HasGivenMore at.node mid gives.gone =
     record { rest = c.give_block_back.ensures.rest; was = k.stored; is = c.give_block_back.ensures.stored; found = c.give_block_back.ensures.own; are = gives.are } in
-    let same = c.in-Err.ensures.back in
+    let same = c.in-Err.ensures.same in
     record {
       calls = calls_back gives.gone;
       were_made = gives.calls;
       fits = subst (λ (s : Stage). CallsFit s (Request at) (calls_back gives.gone)) (sym c.requires.stage) (all_returns gives.gone);
       goes = λ t st now.
           request_gives t st at _ gives.gone (subst (λ (r : RequestNode). IsRequestNode t r st) (sym same) (c.give_block_back.ensures.same t st now.is))
-          (sym (ap is_told c.requires.stage)) (same_gave mid c.in-Err.field-0.node same ∙ more_gave at.node mid gives.gone c.requires.kind more);
+          refl (same_gave mid c.close_write.new.self same ∙ more_gave at.node mid gives.gone c.requires.kind more);
     }

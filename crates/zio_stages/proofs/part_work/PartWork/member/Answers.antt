@@ -23,13 +23,13 @@ returns-clause-hands c = λ t f o st is h.
     let step : Member n ≡ step_of x = sym c.in-Member.is ∙ c.next.ensures.shows.is in
     let held : o.bytes ≡ w.bytes = h.work.bytes (ap is_due due) in
     let alone : w.io ≡ None = no_io c.requires.over.0 x w.io family due c.requires.over.1.io in
-    let hm = c.hand_out_member-own.ensures.handed t o h.asked h.slots h.work.own (held ∙ sym c.as_slice-2.ensures) in
+    let hm = c.hand_out_member-own.ensures.handed t o h.asked h.slots h.work.own (held ∙ sym (c.as_slice.ensures ∙ c.part.ensures.same)) in
     let many : length h.slots ≡ 2 + n = ap length h.work.own.shown ∙ member_number x n step due in
     let grown : c.add.new.self ≡ family ++ new_child (OfOuter (c.args.front + 2 + n)) Gang ∷ [] = c.in_ok-add.ensures.ok in
     let now = c.hand_out_member-own.ensures.exact ∙ ap (λ s. handed_by s x) (sym step) in
     let mine : member_bytes o.bytes n ≡ c.in_ok-bytes.bytes = c.member_range-range.ensures.bytes o.bytes (sym h.work.own.of_bytes.size)
-    ∙ ap (λ bs. take (c.member_range-range.result.end - c.member_range-range.result.start) (drop c.member_range-range.result.start bs)) (held ∙ sym c.as_slice.ensures) ∙ sym c.in_ok-bytes.ensures in
-    hands_member t w _ family c.add.new.self f o c.args.front n st c.of.result begun is h alone hm many grown refl refl (ap (λ (y : PartWriting). y.own) now)
+    ∙ ap (λ bs. take (c.member_range-range.result.end - c.member_range-range.result.start) (drop c.member_range-range.result.start bs)) held ∙ sym c.in_ok-bytes.ensures.part in
+    hands_member t w _ family c.add.new.self f o c.args.front n st c.of.result begun is h alone hm many grown c.part.ensures.same refl (ap (λ (y : PartWriting). y.own) now)
     (c.of.ensures.fresh t (member_of o begun.part.path (member_bytes o.bytes n)) hm.member mine)
 
 pub returns-clause-over : goal.returns-clause-over
@@ -41,7 +41,7 @@ returns-clause-over c = λ tops h.
     let step : Member n ≡ step_of x = sym c.in-Member.is ∙ c.next.ensures.shows.is in
     let grown : c.add.new.self ≡ family ++ new_child (OfOuter (c.args.front + 2 + n)) Gang ∷ [] = c.in_ok-add.ensures.ok in
     let now = c.hand_out_member-own.ensures.exact ∙ ap (λ s. handed_by s x) (sym step) in
-    over_more tops w _ family c.add.new.self (c.args.front + 2 + n) h (ap (λ (y : PartWriting). y.placing) now) (ap (λ (y : PartWriting). y.own) now) (ap (λ (y : PartWriting). y.size) now) refl refl grown
+    over_more tops w _ family c.add.new.self (c.args.front + 2 + n) h (ap (λ (y : PartWriting). y.placing) now) (ap (λ (y : PartWriting). y.own) now) (ap (λ (y : PartWriting). y.size) now) c.part.ensures.same refl grown
 
 pub returns-clause-members : goal.returns-clause-members
 returns-clause-members c =

@@ -15,7 +15,7 @@ returns-clause-fresh c = λ t o f family st writing path bytes levels op inner b
       asked = [];
       slots = [];
       op = op;
-      work = record { behind = behind; own = c.new.ensures.is t o writing path (bytes ∙ sym c.as_slice.ensures) levels; bytes = λ d. bytes; within = (inner, subst IsIdle (sym due) tt) };
+      work = record { behind = behind; own = c.new.ensures.is t o writing path (bytes ∙ sym c.as_slice.ensures) levels; bytes = λ d. bytes ∙ sym c.alone.ensures; within = (inner, subst IsIdle (sym due) tt) };
       children = children;
     }
 
@@ -24,6 +24,6 @@ returns-clause-over c = λ tops family none.
     let body : c.new.result.part.placing ≡ Body = ap (λ (x : PartWriting). x.placing) c.new.ensures.fresh in
     record {
       places = subst (λ (p : Placing). AreIoPlaces tops (places_at p)) (sym body) (no_places tops);
-      bytes = λ d. ap length (sym c.as_slice.ensures) ∙ sym (ap (λ (x : PartWriting). x.size) c.new.ensures.fresh);
+      bytes = λ d. ap length (c.alone.ensures ∙ sym c.as_slice.ensures) ∙ sym (ap (λ (x : PartWriting). x.size) c.new.ensures.fresh);
       io = none;
     }

@@ -36,7 +36,7 @@ returns-in_ok-copy-in-Repair-clause-next c = λ t x e h.
     let child = c.write.result in
     let shown = c.in-Repair.ensures.shows t.setting (good_by w.check) e in
     let bytes : List ℕ = shown.0 in
-    let same : c.in_ok-copy-in-Repair.copy ≡ bytes = c.in_ok-copy-in-Repair.ensures ∙ c.bytes.ensures bytes shown.1 in
+    let same : c.alone-bytes.result ≡ bytes = c.alone-bytes.ensures ∙ (c.in_ok-copy-in-Repair.ensures ∙ c.bytes.ensures bytes shown.1) in
     let fresh : IsLeafWork t child (fresh_frame (Leaf (Store w.read.retry bytes (spot_at target)))) =
     subst (λ (r : Bool). IsLeafWork t child (fresh_frame (Leaf (Store r bytes (spot_at target))))) c.retry-retry-in-Repair.ensures
     (subst (λ (bs : List ℕ). IsLeafWork t child (fresh_frame (Leaf (Store c.retry-retry-in-Repair.result bs (spot_at target))))) same (c.write.ensures.fresh t)) in

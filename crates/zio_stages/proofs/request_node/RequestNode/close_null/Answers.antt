@@ -1,22 +1,14 @@
 use Rattle.std.proofs.Common.{◌≡◌, None, refl}
-use Rattle.zio_trace.specs.Tasks.{OwnGot}
-use Rattle.zio_trace.specs.Plans.{only}
+use Rattle.zio_stages.specs.OwnFounds.{own_got}
+use Rattle.zio_stages.specs.declared.request_node.OwnFound.{OwnFound}
+use Rattle.zio_stages.proofs.ClosedLemmas.{ends_with}
 use Rattle.zio_stages.proofs.NullEnds.{null_ends}
 use Rattle.zio_stages.proofs.request_node.RequestNode.close_null.Goals as goal
 
-pub returns-in-Ok-clause-ends : goal.returns-in-Ok-clause-ends
-returns-in-Ok-clause-ends c =
-    let by = c.in-Ok.ensures.closes in
-    let own : OwnGot = record { error = None; bytes = c.new.result; tree = None; pointer = None } in
-    let none : own ≡ only None = λ i. record { error = None; bytes = c.new.ensures i; tree = None; pointer = None } in (
-      record { error = None; bytes = c.new.result; tree = None; pointer = None },
-      refl,
-      record {
-        closed = by.closed;
-        is = by.is;
-        own_is = by.own_is;
-        decides = by.decides;
-        closes = λ t st h. by.closes t st h (null_ends t c.args.self st h own c.requires.null none);
-        list = by.list;
-      },
-    )
+pub returns-clause-ends : goal.returns-clause-ends
+returns-clause-ends c =
+    let r = c.args.self.now in
+    let own : OwnFound = record { error = None; bytes = c.new.result; tree = None; pointer = None } in
+    ends_with r own (λ (x : OwnFound). x.tree ≡ None) c.close.result refl
+    (λ t st h. null_ends t r st h (own_got own) c.requires.null (λ i. record { error = None; bytes = c.new.ensures i; tree = None; pointer = None }))
+    c.close.ensures.closes

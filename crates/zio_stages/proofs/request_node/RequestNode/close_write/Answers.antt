@@ -1,27 +1,13 @@
-use Rattle.std.proofs.Common.{sym, ap, subst, ◌∙◌}
-use Rattle.zio_stages.specs.RequestNodes.{Closes, IsRequestNode, OwnEnds, own_got}
+use Rattle.std.proofs.Common.{◌≡◌, Some, ap}
 use Rattle.zio_stages.specs.RequestStoreds.{found_by}
-use Rattle.zio_stages.specs.declared.request_node.Own.{Own}
-use Rattle.zio_stages.proofs.RequestStoredLemmas.{closes_stored, with_own}
+use Rattle.zio_stages.specs.declared.request_node.OwnFound.{OwnFound}
+use Rattle.zio_stages.proofs.ClosedLemmas.{ends_with}
+use Rattle.zio_stages.proofs.RequestStoredLemmas.{stored_ends}
 use Rattle.zio_stages.proofs.request_node.RequestNode.close_write.Goals as goal
 
-pub returns-in-Ok-clause-ends : goal.returns-in-Ok-clause-ends
-returns-in-Ok-clause-ends c =
-    let r = c.args.self in
-    let by = c.in-Ok.ensures.closes in
-    let found = c.in-Stored.field-0.own in
-    let is = sym c.replace.ensures.value ∙ c.in-Stored.is in (
-      found,
-      ap found_by is,
-      record {
-        closed = by.closed;
-        is = by.is;
-        own_is = by.own_is;
-        decides = by.decides;
-        closes = λ t st h.
-            closes_stored t r st _ by.closed h is
-            (subst (λ (o : Own). (g : IsRequestNode t (with_own r o) st) → OwnEnds t (with_own r o) st (own_got found) g → Closes t (with_own r o) st g by.closed)
-            c.replace.ensures.after (λ g e. by.closes t st g e));
-        list = by.list;
-      },
-    )
+pub returns-clause-ends : goal.returns-clause-ends
+returns-clause-ends c =
+    let r = c.args.self.now in
+    let b = c.in-Stored.field-0 in
+    ends_with r b.own (λ (x : OwnFound). found_by r.own ≡ Some x) c.close.result (ap found_by c.in-Stored.is)
+    (λ t st h. stored_ends t r st b h c.in-Stored.is) c.close.ensures.closes

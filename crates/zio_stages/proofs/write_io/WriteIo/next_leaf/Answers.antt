@@ -22,5 +22,5 @@ returns-clause-next c = λ t x e h.
     let child = c.write.result in
     let fresh : IsLeafWork t child (fresh_frame (Leaf (Store w.write.retry bytes (spot_at target)))) =
     subst (λ (r : Bool). IsLeafWork t child (fresh_frame (Leaf (Store r bytes (spot_at target))))) c.retry.ensures
-    (subst (λ (bs : List ℕ). IsLeafWork t child (fresh_frame (Leaf (Store c.retry.result bs (spot_at target))))) c.in_ok-copy.ensures (c.write.ensures.fresh t)) in
+    (subst (λ (bs : List ℕ). IsLeafWork t child (fresh_frame (Leaf (Store c.retry.result bs (spot_at target))))) c.in_ok-bytes.ensures.same_bytes (c.write.ensures.fresh t)) in
     write_asks_next t bytes w x target child h (c.in-Store.ensures.shows t.setting bytes e) fresh c.write.ensures.queued

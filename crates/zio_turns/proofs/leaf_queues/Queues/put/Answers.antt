@@ -16,14 +16,14 @@ returns-clause-ok c =
     let leaves = c.args.self.now.leaves.items in
     on_ok_weaker c.put.result
     (put_now leaves c.args.leaf c.index_mut.result.now c.put.new.self
-    (waiting_with (keyed c.args.key c.args.op) c.cut_to.result) (put_as c.args.key c.args.op c.args.bytes) c.requires.there
+    (waiting_with (keyed c.args.key c.args.op) c.front.result) (put_as c.args.key c.args.op c.args.bytes) c.requires.there
     (get_or_read leaves c.args.leaf c.index_mut.result.now c.requires.there c.index_mut.ensures.value no_waits)
-    (cut_as c.args.key c.args.op c.cut_to.result c.args.bytes c.cut_to.ensures)) c.put.ensures.ok
+    (cut_as c.args.key c.args.op c.front.result c.args.bytes c.front.ensures)) c.put.ensures.ok
 
 pub returns-clause-order : goal.returns-clause-order
 returns-clause-order c = λ order.
     let leaves = c.args.self.now.leaves.items in
     order_after c.put.result leaves c.args.leaf c.index_mut.result.now c.put.new.self
-    (waiting_with (keyed c.args.key c.args.op) c.cut_to.result) (put_as c.args.key c.args.op c.args.bytes) c.requires.there
+    (waiting_with (keyed c.args.key c.args.op) c.front.result) (put_as c.args.key c.args.op c.args.bytes) c.requires.there
     (get_or_read leaves c.args.leaf c.index_mut.result.now c.requires.there c.index_mut.ensures.value no_waits)
-    (cut_as c.args.key c.args.op c.cut_to.result c.args.bytes c.cut_to.ensures) c.requires.apart c.put.ensures.ok c.put.ensures.err order
+    (cut_as c.args.key c.args.op c.front.result c.args.bytes c.front.ensures) c.requires.apart c.put.ensures.ok c.put.ensures.err order

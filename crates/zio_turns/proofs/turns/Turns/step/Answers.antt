@@ -416,10 +416,10 @@ end-requires-clause-can g c =
     let taken = changed_twice c.args.self.now.nodes _ out c.args.key (Some now) None placed c.remove.ensures.updates in
     let m = rw c.in-End.is at c.in_ok-turn.ensures.moves in
     subst (λ (tops : _). CanEnd g.N.NodeFacts.nodes g.N.Staged.over tops out e.ties.kind
-    e.ties.parent c.in-End.outcome) (sym (c.tops.ensures ∙ c.run_stage.ensures.tops))
+    e.ties.parent c.in-End.outcome.value) (sym (c.tops.ensures ∙ c.run_stage.ensures.tops))
     (steps_can_end g.N.NodeFacts.nodes c.does_its_part.ensures.gives_own g.N.Staged.over (g.S.Services.tops c.args.services.now) c.args.self.now.nodes
     out out c.args.self.now.line c.args.self.now.line c.args.key e m.0
-    there taken c.in-End.outcome m.2
+    there taken c.in-End.outcome.value m.2
     (λ t st a is. c.does_its_part.ensures.never_finds t e.node st a is) c.requires)
 
 pub returns-in-End-clause-steps : goal.returns-in-End-clause-steps
@@ -436,20 +436,20 @@ returns-in-End-clause-steps g c =
       m.0,
       m.1,
       steps_claim g.N.NodeFacts.nodes (g.S.Services.tops c.args.services.now) c.args.self.now.nodes
-          c.args.self.now.line c.args.key e m.0 (End c.in-End.outcome)
+          c.args.self.now.line c.args.key e m.0 (End c.in-End.outcome.value)
           there m.2,
       steps_last g.N.NodeFacts.nodes g.N.Staged.over (g.S.Services.tops c.args.services.now) c.args.self.now.nodes
-          c.args.self.now.line c.args.key e m.0 (End c.in-End.outcome)
+          c.args.self.now.line c.args.key e m.0 (End c.in-End.outcome.value)
           there m.2 c.requires,
       steps_end g.N.NodeFacts.nodes c.does_its_part.ensures.gives_own g.N.Staged.over (g.S.Services.tops c.args.services.now) c.args.self.now.nodes
           out c.end.new.nodes c.args.self.now.line c.end.new.line c.args.key e m.0
-          there taken c.in-End.outcome m.2
+          there taken c.in-End.outcome.value m.2
           (λ t st a is. c.does_its_part.ensures.never_finds t e.node st a is) step
           (subst (λ (tops : _). HasEnded g.N.NodeFacts.nodes g.N.Staged.over tops out c.args.self.now.line
-          c.end.new.nodes c.end.new.line e.ties.kind e.ties.parent c.in-End.outcome step)
+          c.end.new.nodes c.end.new.line e.ties.kind e.ties.parent c.in-End.outcome.value step)
           (c.tops.ensures ∙ c.run_stage.ensures.tops) has),
       steps_ask g.N.NodeFacts.nodes (g.S.Services.tops c.args.services.now) c.args.self.now.nodes
-          c.args.self.now.line c.args.key e m.0 (End c.in-End.outcome)
+          c.args.self.now.line c.args.key e m.0 (End c.in-End.outcome.value)
           there m.2
           c.does_its_part.ensures.never_finds,
     ))
@@ -468,9 +468,9 @@ returns-in-End-clause-over g c =
     c.args.self.now.line c.end.new.line
     (all_without (g.N.Staged.over (g.S.Services.tops c.args.services.now)) c.args.self.now.nodes out c.args.key
     taken c.requires.over_all)
-    e.ties.kind e.ties.parent c.in-End.outcome step
+    e.ties.kind e.ties.parent c.in-End.outcome.value step
     (subst (λ (tops : _). HasEnded g.N.NodeFacts.nodes g.N.Staged.over tops out c.args.self.now.line
-    c.end.new.nodes c.end.new.line e.ties.kind e.ties.parent c.in-End.outcome step)
+    c.end.new.nodes c.end.new.line e.ties.kind e.ties.parent c.in-End.outcome.value step)
     (c.tops.ensures ∙ c.run_stage.ensures.tops) has))
     c.end.ensures.ended
 
@@ -485,12 +485,12 @@ returns-in-End-clause-less g c =
     IfOk-weaker c.end.result _ _
     (λ step has. less_ended g.N.NodeFacts.nodes g.N.Staged.over c.args.self.now.nodes out c.end.new.nodes c.args.self.now.line
     c.end.new.line c.args.key e there c.tops.result.now e.ties.parent
-    e.ties.kind c.in-End.outcome step taken has (rw c.in-End.is at c.in_ok-turn.ensures.left))
+    e.ties.kind c.in-End.outcome.value step taken has (rw c.in-End.is at c.in_ok-turn.ensures.left))
     c.end.ensures.ended
 
 pub end-requires-clause-inside : goal.end-requires-clause-inside
 end-requires-clause-inside g c =
-    subst (λ (tops : List Top). OutcomeIn (g.N.Staged.tree_over tops) c.in-End.outcome)
+    subst (λ (tops : List Top). OutcomeIn (g.N.Staged.tree_over tops) c.in-End.outcome.value)
     (sym (c.tops.ensures ∙ c.run_stage.ensures.tops)) (rw c.in-End.is at c.in_ok-turn.ensures.over)
 
 pub returns-in-End-clause-inside : goal.returns-in-End-clause-inside

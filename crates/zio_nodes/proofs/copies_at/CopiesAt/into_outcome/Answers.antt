@@ -3,7 +3,7 @@ use Rattle.zio_trace.specs.Leaves.{Answer}
 use Rattle.zio_trace.specs.Tasks.{Got}
 use Rattle.zio_frames.specs.Moves.{IsEnded}
 use Rattle.zio_nodes.proofs.CopiesLemmas.{copies_end}
-use Rattle.zio_nodes.proofs.copies_at.CopiesAt.done.Goals as goal
+use Rattle.zio_nodes.proofs.copies_at.CopiesAt.into_outcome.Goals as goal
 
 pub returns-clause-moves : goal.returns-clause-moves
 returns-clause-moves c = λ t st now.

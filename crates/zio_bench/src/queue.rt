@@ -1,5 +1,5 @@
-ghost use Rattle.std.specs.Prelude.{◌≤◌, ◌^◌};
-ghost use Rattle.zio_vqueue.specs.Queues.{FitsDevice};
+ghost use Rattle.std.specs.Prelude.{◌≡◌, ◌≤◌, ◌^◌, ℕ, false};
+ghost use Rattle.zio_vqueue.specs.Queues.{FitsDevice, is_queued};
 
 use anyhow::Result;
 use std::alloc::Global;
@@ -20,49 +20,73 @@ pub enum Order {
 
 /// Puts and takes so many async writes of 4 KiB, `queued` of them at a time. The answer is how many were taken.
 pub fn put_and_take(alloc: Global, order: Order, queued: u32, calls: u32) -> Result<u32> {
-    let mut queue = VQueue::new(alloc);
+    let mut numbered = Numbered::new(alloc);
     let mut taken = 0u32;
     for _ in 0..calls / queued.max(1) {
-        for ticket in 0..queued {
-            put(&mut queue, op_of(order, ticket))?;
+        for index in 0..queued {
+            numbered.put(op_of(order, index))?;
         }
         for _ in 0..queued {
-            taken = taken.saturating_add(take(&mut queue)?);
+            taken = taken.saturating_add(numbered.take()?);
         }
     }
     Ok(taken)
 }
 
-fn put(queue: &mut VQueue, op: Op) -> Result<(), NoMemory>
-    requires { FitsDevice op }
-{
-    if queue.has(op.ticket) {
-        return Ok(());
-    }
-    queue.put(op)
+/// A queue whose operations have tickets in the order of putting, from 0 on.
+#[derive(Drop)]
+struct Numbered {
+    queue: VQueue,
+    next: u64,
+    ghost fresh: { (ticket : ℕ) → next ≤ ticket → is_queued ticket queue.queued ≡ false },
 }
 
-/// Takes a group and is done with it. The answer is how many operations it had.
-fn take(queue: &mut VQueue) -> Result<u32, NoMemory> {
-    let Some(group) = queue.take()? else {
-        return Ok(0);
-    };
-    let count = u32::try_from(group.ops.len()).unwrap_or(u32::MAX);
-    if queue.active(group.prio) > 0 {
-        queue.done(group);
+impl Numbered {
+    fn new(alloc: Global) -> Numbered {
+        Numbered {
+            queue: VQueue::new(alloc),
+            next: 0,
+        }
     }
-    Ok(count)
+
+    /// Queues an operation under the next ticket in place of its own.
+    fn put(&mut self, op: Op) -> Result<(), NoMemory>
+        requires { FitsDevice op }
+    {
+        let Some(next) = self.next.checked_add(1) else {
+            return Ok(());
+        };
+        self.queue.put(Op {
+            ticket: self.next,
+            ..op
+        })?;
+        self.next = next;
+        Ok(())
+    }
+
+    /// Takes a group and is done with it. The answer is how many operations it had.
+    fn take(&mut self) -> Result<u32, NoMemory> {
+        let Some(group) = self.queue.take()? else {
+            return Ok(0);
+        };
+        let count = u32::try_from(group.ops.len()).unwrap_or(u32::MAX);
+        if self.queue.active(group.prio) > 0 {
+            self.queue.done(group);
+        }
+        Ok(count)
+    }
 }
 
-fn op_of(order: Order, ticket: u32) -> Op
+/// The operation of this index among those that are put one after another.
+fn op_of(order: Order, index: u32) -> Op
     ensures { FitsDevice result }
 {
     let place = match order {
-        Order::Sequential => u64::from(ticket),
-        Order::Random => u64::from(ticket.wrapping_mul(2_654_435_761)),
+        Order::Sequential => u64::from(index),
+        Order::Random => u64::from(index.wrapping_mul(2_654_435_761)),
     };
     Op {
-        ticket: u64::from(ticket),
+        ticket: u64::from(index),
         write: true,
         at: place * u64::from(LEN),
         len: LEN,

@@ -1,5 +1,5 @@
 -- Forests and the lists that they are: a list is one forest at most.
-use Rattle.std.proofs.Common.{◌≡◌, ℕ, zero, suc, ◌+◌, List, [], ◌∷◌, ◌++◌, length, map, refl, sym, ap, ◌∙◌, arith}
+use Rattle.std.proofs.Common.{◌≡◌, ℕ, zero, suc, ◌+◌, List, [], ◌∷◌, ◌++◌, map, refl, sym, ap, ◌∙◌, arith}
 use Rattle.std.proofs.lemmas.List.{map-append}
 use Rattle.zio_gang.specs.Attempts.{Pending}
 use Rattle.zio_trace.specs.Families.{Forest, NoTrees, TreeOf, before, flat}
@@ -64,7 +64,7 @@ read_append met (x ∷ xs) ys = read_append (TreeOf x.pending (taken x.unfinishe
 read_shapes : (met f : Forest) → read met (shapes f) ≡ onto f met
 read_shapes met NoTrees = refl
 read_shapes met (TreeOf p kids others) =
-    let s : Shape = record { pending = p; unfinished = trees_in kids; below = length (flat kids) } in
+    let s : Shape = record { pending = p; unfinished = trees_in kids } in
     read_append met (shapes kids) (s ∷ shapes others)
     ∙ ap (λ (g : Forest). read g (s ∷ shapes others)) (read_shapes met kids)
     ∙ (λ i. read (TreeOf p (taken_all kids met i) (left_all kids met i)) (shapes others))
@@ -89,7 +89,7 @@ one_tree ws p q below kids a b =
 shapes_flat : (f : Forest) → map (λ (s : Shape). s.pending) (shapes f) ≡ flat f
 shapes_flat NoTrees = refl
 shapes_flat (TreeOf p kids others) =
-    let s : Shape = record { pending = p; unfinished = trees_in kids; below = length (flat kids) } in
+    let s : Shape = record { pending = p; unfinished = trees_in kids } in
     map-append (λ (x : Shape). x.pending) (shapes kids) (s ∷ shapes others)
     ∙ (λ i. shapes_flat kids i ++ p ∷ shapes_flat others i)
 
@@ -99,10 +99,3 @@ seen_shapes (w ∷ ws) = ap (λ (ps : List Pending). pending_of w ∷ ps) (seen_
 
 pub forest_flat : (ws : List UnfinishedRequest) (f : Forest) → IsForestOf ws f → pendings ws ≡ flat f
 forest_flat ws f h = sym (seen_shapes ws) ∙ ap (map (λ (s : Shape). s.pending)) h ∙ shapes_flat f
-
-length_map : {X Y : Type 0} (f : X → Y) (xs : List X) → length (map f xs) ≡ length xs
-length_map f [] = refl
-length_map f (x ∷ xs) = ap suc (length_map f xs)
-
-pub forest_length : (ws : List UnfinishedRequest) (f : Forest) → IsForestOf ws f → length ws ≡ length (flat f)
-forest_length ws f h = sym (length_map pending_of ws) ∙ ap length (forest_flat ws f h)

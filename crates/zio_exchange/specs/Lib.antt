@@ -2,5 +2,6 @@ pub mod LeafOps
 pub mod Outcomes
 pub mod SpaceCalls
 pub mod Waits
+pub mod WholeSizes
 pub mod Wholes
 pub mod WithinParts

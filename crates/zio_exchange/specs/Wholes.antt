@@ -1,6 +1,6 @@
 -- Whole trees of requests: a list in the order of attempts, and the trees that it is.
 use Rattle.std.specs.Prelude.{◌≡◌, ℕ, zero, suc, List, [], ◌∷◌, ◌++◌, length, map, Option, Some, None, option_map}
-use Rattle.std.specs.List.{flat_map}
+use Rattle.std.specs.List.{AllByRecursion, flat_map}
 use Rattle.zio_gang.specs.Attempts.{Pending}
 use Rattle.zio_trace.specs.Families.{Forest, NoTrees, TreeOf, flat}
 use Rattle.zio_trace.specs.Tasks.{One}
@@ -8,14 +8,13 @@ use Rattle.zio_children.specs.RequestKids.{RiseFrom, root_numbers}
 use Rattle.zio_exchange.specs.declared.waiting.UnfinishedRequest.{UnfinishedRequest}
 use Rattle.zio_exchange.specs.Waits.{pending_of}
 
--- a request, and how many trees and how many requests stand under it
+-- a request, and how many trees stand under it
 pub record Shape : Type 0 where
   pub pending : Pending
   pub unfinished : ℕ
-  pub below : ℕ
 
 abbrev pub shape_of : UnfinishedRequest → Shape
-shape_of w = record { pending = pending_of w; unfinished = w.unfinished; below = w.below }
+shape_of w = record { pending = pending_of w; unfinished = w.unfinished }
 
 -- how many trees these are
 abbrev pub trees_in : Forest → ℕ
@@ -26,7 +25,7 @@ trees_in (TreeOf p kids others) = suc (trees_in others)
 abbrev pub shapes : Forest → List Shape
 shapes NoTrees = []
 shapes (TreeOf p kids others) =
-    shapes kids ++ record { pending = p; unfinished = trees_in kids; below = length (flat kids) } ∷ shapes others
+    shapes kids ++ record { pending = p; unfinished = trees_in kids } ∷ shapes others
 
 -- the list is these trees, and no others: a list is one forest at most
 abbrev pub IsForestOf : List UnfinishedRequest → Forest → Type 0
@@ -59,16 +58,9 @@ pub record IsWhole (ws : List UnfinishedRequest) : Type 0 where
 abbrev pub joined : List (List UnfinishedRequest) → List UnfinishedRequest
 joined trees = flat_map (λ (ws : List UnfinishedRequest). ws) trees
 
--- the request, with these counts
-abbrev pub counted : UnfinishedRequest → ℕ → ℕ → UnfinishedRequest
-counted w unfinished below = record {
-  request = w.request;
-  birth = w.birth;
-  block = w.block;
-  kept = w.kept;
-  unfinished = unfinished;
-  below = below;
-}
+-- the request, over so many trees
+abbrev pub counted : UnfinishedRequest → ℕ → UnfinishedRequest
+counted w unfinished = record { request = w.request; birth = w.birth; block = w.block; kept = w.kept; unfinished = unfinished }
 
 -- the request that is attempted last
 abbrev pub root_of : List UnfinishedRequest → Option UnfinishedRequest
@@ -87,6 +79,12 @@ number_or (Some n) ns = n ∷ ns
 abbrev pub roots_in : List (List UnfinishedRequest) → List ℕ
 roots_in [] = []
 roots_in (ws ∷ trees) = number_or (root_number ws) (roots_in trees)
+
+-- These are the trees of the request's children, which haven't finished.
+pub record AreOver (trees : List (List UnfinishedRequest)) (root : UnfinishedRequest) : Type 0 where
+  pub each : AllByRecursion IsWhole trees
+  pub rising : RiseFrom 0 (roots_in trees)
+  pub count : root.unfinished ≡ length trees
 
 -- what an attempt left of a tree that goes again is this list
 pub record IsLeft (ws : List UnfinishedRequest) (one : One) : Type 0 where

@@ -17,4 +17,4 @@ pub use outcome::{Finished, FinishedRequest, Outcome};
 pub use services::{Services, Unclaimed};
 pub use summed::{Summed, into_found, sum_of_read, unsummed};
 pub use waiting::UnfinishedRequest;
-pub use whole::{ChildrenBack, Whole, WholeBack, put_reserved};
+pub use whole::{ChildrenBack, Whole, WholeBack};

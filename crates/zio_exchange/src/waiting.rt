@@ -15,8 +15,6 @@ pub struct UnfinishedRequest {
     pub block: Option<Tree>,
     /// Its children that finished in earlier attempts, by number.
     pub kept: List<KeptChild>,
-    /// How many of its children's trees stand before it.
+    /// How many of its children haven't finished.
     pub unfinished: usize,
-    /// How many requests stand under it in all.
-    pub below: usize,
 }

@@ -1,14 +1,13 @@
 //! A tree of requests that isn't in flight.
 
-ghost use Rattle.std.specs.Prelude.{◌≡◌, ◌+◌, ◌≤◌, ◌∷◌, ◌++◌, [], IfErr, IfOk, IfSome, Some, length, vec_capacity};
+ghost use Rattle.std.specs.Prelude.{◌≡◌, ◌∷◌, ◌++◌, [], IfErr, IfOk, IfSome, Some, length};
 ghost use Rattle.std.specs.List.{AllByRecursion};
 ghost use Rattle.zio_script.specs.Requests.{kind_of};
 ghost use Rattle.zio_trace.specs.Families.{Forest};
-ghost use Rattle.zio_parts.specs.Gathers.{as_counted};
 ghost use Rattle.zio_children.specs.RequestKids.{RiseFrom};
 ghost use Rattle.zio_exchange.specs.declared.waiting.UnfinishedRequest.{UnfinishedRequest as SeenWaiting};
 ghost use Rattle.zio_exchange.specs.Waits.{fresh, pending_of, pendings};
-ghost use Rattle.zio_exchange.specs.Wholes.{AreTrees, IsTreeOf, IsWhole, joined, root_number, root_of, roots_in};
+ghost use Rattle.zio_exchange.specs.Wholes.{AreOver, AreTrees, IsTreeOf, IsWhole, counted, joined, root_number, root_of, roots_in};
 
 use crate::request::request_again;
 use crate::waiting::UnfinishedRequest;
@@ -18,24 +17,34 @@ use zio_gang::Tree;
 use zio_script::Request;
 use zio_types::{Kind, List, NoMemory, ReqNo};
 
-/// A tree of requests that haven't finished, none of which is in flight: each child's tree by number, then the request
-/// itself. A contract sees the list; `pendings` are its requests as the definitions have them.
+/// A tree of requests that haven't finished, none of which is in flight: a request over its children's trees. A contract
+/// sees the list of its requests: each child's tree by number, then the request itself. `pendings` are these as the
+/// definitions have them.
 #[derive(Debug, Drop)]
 pub struct Whole {
-    pub waiting: List<UnfinishedRequest>,
+    root: Box<UnfinishedRequest>,
+    /// By number.
+    children: Vec<Whole>,
 }
 
 impl Model for Whole {
-    ghost use Rattle.std.specs.Prelude.{List};
+    ghost use Rattle.std.specs.Prelude.{List, length, ◌++◌, ◌∷◌, []};
     ghost use Rattle.zio_exchange.specs.declared.waiting.UnfinishedRequest.{UnfinishedRequest};
 
     ghost Value = { List UnfinishedRequest };
 
-    ghost use Rattle.zio_exchange.specs.Wholes.{IsWhole};
+    ghost use Rattle.zio_exchange.specs.Wholes.{AreOver, joined};
 
-    ghost view = { λ w. w.waiting };
+    ghost view = { λ w. joined w.children.items ++ w.root.value ∷ [] };
 
-    ghost invariant = { λ w. IsWhole w.waiting };
+    ghost invariant = { λ w. AreOver w.children.items w.root.value };
+
+    ghost size = { length };
+
+    ghost use Rattle.std.proofs.Common.{arith, length-append};
+    ghost use Rattle.zio_exchange.specs.WholeSizes.{most_joined};
+
+    ghost size_decreases = { λ w h. omega (arith, most_joined w.children.items, length-append (joined w.children.items) (w.root.value ∷ [])) };
 }
 
 /// There is no memory to begin with this tree.
@@ -67,21 +76,32 @@ impl Whole {
             IsTreeOf tree (fresh request.now birth block) forest) }
         ensures back { IfErr result (λ e. e.children ≡ children) }
     {
-        let begun = begin_tree(alloc, request, children.as_slice());
-        match begun {
+        match root_over(alloc, request, birth, block) {
+            Ok(root) => Ok(Whole::grown(root, children.into_vec())),
             Err(NoMemory) => Err(ChildrenBack { children }),
-            Ok((request, all)) => {
-                let root = UnfinishedRequest {
-                    request,
-                    birth,
-                    block,
-                    kept: List::new(alloc),
-                    unfinished: 0,
-                    below: 0,
-                };
-                Ok(grown(all, children, root))
-            }
         }
+    }
+
+    /// The tree of a request over these, which come by rising number. It sets how many they are, and takes no memory.
+    pub fn grown(root: Box<UnfinishedRequest>, children: Vec<Whole>) -> Whole
+        requires rising { RiseFrom 0 (roots_in children.items) }
+        ensures list { result ≡ joined children.items ++ counted root.value (length children.items) ∷ [] }
+        ensures tree { (forest : Forest) → AreTrees children.items forest →
+            IsTreeOf result (pending_of root.value) forest }
+    {
+        are_whole(&children);
+        let mut root = root;
+        root.unfinished = children.len();
+        Whole { root, children }
+    }
+
+    /// Its request, and its children's trees by number.
+    pub fn into_parts(self) -> (Box<UnfinishedRequest>, Vec<Whole>)
+        ensures list { self ≡ joined result.1.items ++ result.0.value ∷ [] }
+        ensures over { AreOver result.1.items result.0.value }
+    {
+        let Whole { root, children } = self;
+        (root, children)
     }
 
     /// The request that is attempted last.
@@ -89,8 +109,7 @@ impl Whole {
         ensures root { root_of self.now ≡ Some result.now }
         ensures whole { IsWhole self.now }
     {
-        let waiting = self.waiting.as_slice();
-        &waiting[waiting.len() - 1]
+        &self.root
     }
 
     /// Its number.
@@ -115,66 +134,34 @@ impl Whole {
     }
 }
 
-/// The request once more, and room for it behind all of its children's trees.
-fn begin_tree(
+/// A request that no round has seen, over no trees.
+fn root_over(
     alloc: Global,
     request: &Request,
-    children: &[Whole],
-) -> Result<(Request, Vec<UnfinishedRequest>), NoMemory>
-    ensures request { IfOk result (λ begun. begun.0 ≡ request.now) }
-    ensures none { IfOk result (λ begun. begun.1.items ≡ []) }
-    ensures room { IfOk result (λ begun. length (joined children.now) + 1 ≤ vec_capacity begun.1) }
-    ensures whole { IfOk result (λ begun. AllByRecursion IsWhole children.now) }
+    birth: u32,
+    block: Option<Tree>,
+) -> Result<Box<UnfinishedRequest>, NoMemory>
+    ensures { IfOk result (λ root. pending_of root.value ≡ fresh request.now birth block) }
 {
-    let all = Vec::with_capacity(alloc, room_over(children))?;
     let request = request_again(alloc, request)?;
-    Ok((request, all))
-}
-
-/// How many requests a tree over these has. More than can be counted counts as the most: no vector has room for so
-/// many.
-fn room_over(children: &[Whole]) -> usize
-    ensures room { result ≡ as_counted (length (joined children.now) + 1) }
-    ensures whole { AllByRecursion IsWhole children.now }
-{
-    let mut room: usize = 1;
-    for tree in children {
-        room = room.saturating_add(tree.waiting.len());
-    }
-    room
-}
-
-/// The children's trees and the root behind them, for which there is room. It sets the root's counts.
-fn grown(
-    mut all: Vec<UnfinishedRequest>,
-    children: List<Whole>,
-    mut root: UnfinishedRequest,
-) -> Whole
-    requires none { all.items ≡ [] }
-    requires room { length (joined children) + 1 ≤ vec_capacity all }
-    requires whole { AllByRecursion IsWhole children }
-    requires rising { RiseFrom 0 (roots_in children) }
-    ensures list { pendings result ≡ pendings (joined children) ++ pending_of root ∷ [] }
-    ensures tree { (forest : Forest) → AreTrees children forest → IsTreeOf result (pending_of root) forest }
-{
-    root.unfinished = children.len();
-    for tree in children.into_rest() {
-        put_reserved(&mut all, tree.waiting.into_vec());
-    }
-    root.below = all.len();
-    all.push_reserved(root);
-    Whole {
-        waiting: List::from_vec(all),
+    let root = UnfinishedRequest {
+        request,
+        birth,
+        block,
+        kept: List::new(alloc),
+        unfinished: 0,
+    };
+    match Box::new(alloc, root) {
+        Ok(root) => Ok(root),
+        Err(_) => Err(NoMemory),
     }
 }
 
-/// Moves these to the end, where there is room for them.
-pub fn put_reserved(all: &mut Vec<UnfinishedRequest>, mut more: Vec<UnfinishedRequest>)
-    requires { length all.old.items + length more.items ≤ vec_capacity all.old }
-    ensures items { all.new.items ≡ all.old.items ++ more.items }
-    ensures capacity { vec_capacity all.old ≤ vec_capacity all.new }
+/// What holds of every tree: it is whole. It does nothing.
+fn are_whole(trees: &[Whole])
+    ensures { AllByRecursion IsWhole trees.now }
 {
-    if all.append(&mut more).is_err() {
-        unreachable!()
+    for tree in trees {
+        let _ = &tree.root;
     }
 }

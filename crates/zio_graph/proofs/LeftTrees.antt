@@ -116,7 +116,7 @@ shapes_sound : (f : Forest) → AllByRecursion (λ (s : Shape). IsSoundPending s
 shapes_sound NoTrees h = tt
 shapes_sound (TreeOf p kids others) h =
     let both = all_split (λ (s : Shape). IsSoundPending s.unfinished s.pending) (shapes kids)
-    (record { pending = p; unfinished = trees_in kids; below = length (flat kids) } ∷ shapes others) h in
+    (record { pending = p; unfinished = trees_in kids } ∷ shapes others) h in
     (both.1.0, shapes_sound kids both.0, shapes_sound others both.1.1)
 
 engine_tree : (ws : List UnfinishedRequest) → IsWhole ws → IsLinkedForest ws → AllByRecursion IsSoundRequest (pendings ws)

@@ -5,7 +5,7 @@ ghost use Rattle.zio_faults.specs.Hits.{RowFits};
 ghost use Rattle.zio_vqueue.specs.Queues.{AreApart, FitsDevice, eligible, is_queued};
 ghost use Rattle.zio_vqueue.specs.Groups.{IsNextGroup, after_take};
 ghost use Rattle.zio_disks.specs.Disks.{Handles};
-ghost use Rattle.zio_groups.specs.Issued.{EndsOn, IsFit, written_spots};
+ghost use Rattle.zio_groups.specs.Issued.{EndsOn, written_spots};
 ghost use Rattle.zio_groups.specs.LeafQueues.{IsIssued, kept_with, ops_of, queue_of, waiting_with};
 
 use crate::group::issue_group;
@@ -69,16 +69,6 @@ impl LeafQueue {
     {
         keep(&mut self.kept, &op, bytes)?;
         self.queue.put(op)
-    }
-
-    /// Whether an operation with this ticket waits: no two have one ticket. Each ends on a device and has no more bytes
-    /// to write than its range.
-    pub fn has(&self, ticket: u64) -> bool
-        ensures waits { result ≡ is_queued ticket (ops_of self.now.waiting) }
-        ensures apart { AreApart (ops_of self.now.waiting) }
-        ensures fit { AllByRecursion IsFit self.now.waiting }
-    {
-        self.queue.has(ticket)
     }
 
     /// Whether there is a group to issue.

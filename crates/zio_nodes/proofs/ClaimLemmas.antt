@@ -125,6 +125,26 @@ ended_past (Some tree) StepFound h = absurd h
 ended_past (Some tree) Taken h = tt
 ended_past (Some tree) Refused h = tt
 
+walk_past : (block : Option Tree) (step : ClaimStep) → IsWalkDue block step → IsPastDue block step → ⊥
+walk_past None step due past = due
+walk_past (Some tree) StepDue due past = past
+walk_past (Some tree) StepOut due past = due
+walk_past (Some tree) (Failed error) due past = due
+walk_past (Some tree) StepFound due past = due
+walk_past (Some tree) Taken due past = due
+walk_past (Some tree) Refused due past = due
+
+-- its walk is due or no longer
+pub walk_due_past : (own : Own) → IsClaimingWith (λ w. IsWalkDue w.block w.step) own → IsClaimWith (λ w. IsPastDue w.block w.step) own → ⊥
+walk_due_past Due due past = due
+walk_due_past (Write w) due past = due
+walk_due_past (Stored b) due past = due
+walk_due_past (Read w) due past = due
+walk_due_past (Free w) due past = due
+walk_due_past (Claim w) due past = walk_past w.block w.step due past
+walk_due_past (Found own) due past = due
+walk_due_past Over due past = due
+
 pub claiming_ended : (own : Own) → IsClaimWith HasEndedClaim own → claiming_left own ≡ 0
 claiming_ended own h = claiming_past own (claim_map HasEndedClaim IsClaimBegun own (λ w e. ended_past w.block w.step e) h)
 

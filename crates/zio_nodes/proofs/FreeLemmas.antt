@@ -14,7 +14,7 @@ use Rattle.zio_gang.specs.declared.tree.Tree.{Tree}
 use Rattle.zio_exchange.specs.Outcomes.{freed_if}
 use Rattle.zio_exchange.specs.SpaceCalls.{calls_back}
 use Rattle.zio_staged.specs.Stages.{told_cost}
-use Rattle.zio_stages.specs.RequestFrees.{FreesOn, HasFreed, HasKeptFailed, HasWalked, IsFreeWith, IsFreeing, IsFreeingWith, freed_by}
+use Rattle.zio_stages.specs.RequestFrees.{FreesOn, HasBegun, HasFreed, HasKeptFailed, HasWalked, IsFreeWith, IsFreeing, IsFreeingWith, freed_by}
 use Rattle.zio_stages.specs.RequestKinds.{has_gang_stages, is_gang_tree}
 use Rattle.zio_stages.specs.RequestReads.{HasFound, found_error}
 use Rattle.zio_stages.specs.StoredBlocks.{block_places}
@@ -131,6 +131,17 @@ begins_less old new was now due is before = omega (arith, freeing_most new, ap f
 -- from one stage to a later one with the same work
 pub stage_less : (own : Own) (was now : Stage) (a b : ℕ) → free_stages was ≡ a → free_stages now ≡ b → b + 1 ≤ a → freeing_left own + free_stages now + 1 ≤ freeing_left own + free_stages was
 stage_less own was now a b x y less = omega (arith, x, y, less)
+
+-- its walk is due or has begun
+pub walk_due_begun : (own : Own) → IsFreeingWith (λ w. w.walk ≡ FreeDue) own → IsFreeWith (λ w. HasBegun w.walk) own → ⊥
+walk_due_begun Due due begun = due
+walk_due_begun (Write w) due begun = due
+walk_due_begun (Stored b) due begun = due
+walk_due_begun (Read w) due begun = due
+walk_due_begun (Free w) due begun = subst HasBegun due begun
+walk_due_begun (Claim w) due begun = due
+walk_due_begun (Found own) due begun = due
+walk_due_begun Over due begun = due
 
 -- the walk was handed out
 pub walk_less : (old new : Own) (stage : Stage) → IsFreeingWith (λ w. w.walk ≡ FreeDue) old → IsFreeingWith (λ w. w.walk ≡ Out) new

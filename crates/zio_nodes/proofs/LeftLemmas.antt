@@ -19,7 +19,7 @@ use Rattle.zio_exchange.specs.declared.waiting.UnfinishedRequest.{UnfinishedRequ
 use Rattle.zio_stages.specs.ClosedRequests.{Again, Closed, Finished}
 use Rattle.zio_stages.specs.KidLists.{AreMarked, IsLeftList, LeavesList}
 use Rattle.zio_stages.specs.KidTrees.{trees_left}
-use Rattle.zio_stages.proofs.SplitLemmas.{reverse_first}
+use Rattle.zio_stages.proofs.ReverseLemmas.{reverse_first}
 use Rattle.zio_stages.specs.RequestOwns.{IsBlockOn}
 use Rattle.zio_stages.specs.WrittenBlocks.{IsSoundWrite}
 use Rattle.zio_stages.specs.declared.request_node.RequestNode.{RequestNode}

@@ -1,7 +1,6 @@
 pub mod AttemptHears
 pub mod BodyCounts
 pub mod BoundLemmas
-pub mod Boxes
 pub mod ClaimLemmas
 pub mod CopiesLemmas
 pub mod FirstStages
@@ -9,6 +8,7 @@ pub mod FoundEnds
 pub mod FreeLemmas
 pub mod GivenBack
 pub mod HeadsLemmas
+pub mod KeptNodes
 pub mod KidMarks
 pub mod LastMoves
 pub mod LeafLemmas

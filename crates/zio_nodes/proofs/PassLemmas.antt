@@ -45,7 +45,7 @@ use Rattle.zio_nodes.specs.declared.leaf_at.LeafAt.{LeafAt}
 use Rattle.zio_nodes.specs.declared.node.Node.{Node}
 use Rattle.zio_nodes.specs.declared.node.Node.TheVariants.{Copies, Empty, Heads, Leaf, Part, Request, Tree}
 use Rattle.zio_nodes.specs.declared.turn.Turn.{Turn}
-use Rattle.zio_nodes.specs.declared.turn.Turn.TheVariants.{End as Ended, Grow as Grown, Leaf as Handed, Next as On, Ready as Told, Wait as Waiting}
+use Rattle.zio_nodes.specs.declared.turn.Turn.TheVariants.{Ask as Asked, End as Ended, Grow as Grown, Leaf as Handed, Next as On, Ready as Told, Wait as Waiting}
 
 -- no operation on a leaf is handed out or waited for there
 abbrev pub IsApart : Stage → Type 0
@@ -107,6 +107,7 @@ in_pass : (node after : Node) (turn : Turn) → IsInPassOf node after → Leaves
 in_pass node after On keeps = keeps
 in_pass node after (Waiting kind phase) keeps = keeps
 in_pass node after (Grown child kind) keeps = keeps
+in_pass node after (Asked at) keeps = keeps
 in_pass node after (Handed op leaf bytes) keeps = keeps
 in_pass node after (Told pointer) keeps = tt
 in_pass node after (Ended outcome) keeps = tt

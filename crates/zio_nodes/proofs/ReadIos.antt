@@ -1,5 +1,5 @@
 -- A read that hands an operation on a leaf to a child: who asks it, and how often the read runs then.
-use Rattle.std.proofs.Common.{◌≡◌, ℕ, ◌≤◌, List, [], length, Bool, true, false, Option, Some, None, refl, sym, ap, subst, ◌∙◌, arith}
+use Rattle.std.proofs.Common.{◌≡◌, ℕ, ◌≤◌, List, [], length, Bool, true, false, Option, Some, None, inl, refl, sym, ap, subst, ◌∙◌, arith}
 use Rattle.zio_types.specs.declared.place.Top.{Top}
 use Rattle.zio_types.specs.declared.request.ChildKind.TheVariants.{Vdev}
 use Rattle.zio_gang.specs.Attempts.{Terms}
@@ -11,7 +11,7 @@ use Rattle.zio_stages.specs.LeafWorks.{IsLeafWork}
 use Rattle.zio_stages.specs.NodeIos.{StartsBy}
 use Rattle.zio_stages.specs.OwnParts.{DoesThen}
 use Rattle.zio_stages.specs.OwnReads.{IsBodyIn, IsOwnOver as IsBodyOwnOver}
-use Rattle.zio_stages.specs.ReadCounts.{IsNoneDue, IsNoneDueIn, IsOneDue, IsOneDueIn}
+use Rattle.zio_stages.specs.ReadCounts.{IsAskedMore, IsNoneDue, IsNoneDueIn, IsOneDue, IsOneDueIn, StartsBody}
 use Rattle.zio_stages.specs.ReadIos.{IsReadOver, outs_when}
 use Rattle.zio_stages.specs.RequestNodes.{IsOwnOf, IsOwnOver, IsRequestNode, front_by}
 use Rattle.zio_stages.specs.RequestReads.{IsReadWith, IsReadingWith, ReadsOn}
@@ -72,6 +72,23 @@ still_reading R (Free w) now h on = absurd h
 still_reading R (Claim w) now h on = absurd h
 still_reading R (Found own) now h on = absurd h
 still_reading R Over now h on = absurd h
+
+-- ---- none is due
+
+asked_none : (b : Option BodyIo) → IsAskedMore None b b
+asked_none None = refl
+asked_none (Some b) = (refl, refl)
+
+-- nothing changes
+pub starts_none : (own : Own) → ReadsOn (StartsBody None) own own
+starts_none Due = refl
+starts_none (Write w) = refl
+starts_none (Stored b) = refl
+starts_none (Read w) = record { mid = w; begins = inl refl; asks = record { tree = refl; body = asked_none w.body } }
+starts_none (Free w) = refl
+starts_none (Claim w) = refl
+starts_none (Found own) = refl
+starts_none Over = refl
 
 -- ---- the operation is handed to a child
 

@@ -14,7 +14,7 @@ use Rattle.zio_parts.specs.declared.tree_read.TreeStep.TheVariants.{Walk, Body, 
 use Rattle.zio_parts.specs.declared.tree_read.Phase.{Phase}
 use Rattle.zio_parts.specs.declared.tree_read.Phase.TheVariants.{Unread, Out as WalkOut, Failed as WalkFailed, Found as BodiesFound}
 use Rattle.zio_staged.specs.Stages.{told_cost}
-use Rattle.zio_stages.specs.ReadCounts.{HandsOutBody, HandsOutWalk, HasBegun, HasHandedAll, HasOneBody, HasWalkBegun, IsMoreToRead, IsUnread, AreHandedOut}
+use Rattle.zio_stages.specs.ReadCounts.{HandsOutBody, HandsOutWalk, HasBegun, HasHandedAll, HasOneBody, HasWalkBegun, IsMoreToRead, IsUnread, IsWalkDue, AreHandedOut}
 use Rattle.zio_stages.specs.RequestKinds.{has_gang_stages, is_gang_tree}
 use Rattle.zio_stages.specs.RequestReads.{HasFound, IsAlone, IsReadWith, IsReadingWith, ReadsOn}
 use Rattle.zio_stages.specs.declared.own_read.OwnRead.{OwnRead}
@@ -44,6 +44,27 @@ with_map P Q (Free w) f h = h
 with_map P Q (Claim w) f h = h
 with_map P Q (Found own) f h = tt
 with_map P Q Over f h = h
+
+pub any_reading : (P : OwnRead → Type 0) (own : Own) → IsReadingWith P own → IsReadingWith (λ w. Unit {0}) own
+any_reading P Due h = h
+any_reading P (Write w) h = h
+any_reading P (Stored b) h = h
+any_reading P (Read w) h = tt
+any_reading P (Free w) h = h
+any_reading P (Claim w) h = h
+any_reading P (Found own) h = h
+any_reading P Over h = h
+
+-- its walk is due or has begun
+pub walk_due_begun : (own : Own) → IsReadingWith IsWalkDue own → IsReadWith HasWalkBegun own → ⊥
+walk_due_begun Due due begun = due
+walk_due_begun (Write w) due begun = due
+walk_due_begun (Stored b) due begun = due
+walk_due_begun (Read w) due begun = subst HasBegun due begun
+walk_due_begun (Free w) due begun = due
+walk_due_begun (Claim w) due begun = due
+walk_due_begun (Found own) due begun = due
+walk_due_begun Over due begun = due
 
 pub reading_with : (P : OwnRead → Type 0) (own : Own) → IsReadingWith P own → IsReadWith P own
 reading_with P Due h = absurd h

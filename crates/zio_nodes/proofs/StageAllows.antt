@@ -1,5 +1,6 @@
 -- What a stage allows: for whom it waits, whom it hands out, and when it goes back.
 use Rattle.std.proofs.Common.{◌≡◌, ◌∙◌, ◌∷◌, [], List, Option, Some, None, ◌+◌, ◌<◌, ◌≤◌, length, true, false, refl, sym, ap, subst, arith, length-append}
+use Rattle.zio_types.specs.declared.place.Top.{Top}
 use Rattle.zio_types.specs.declared.request.ChildKind.{ChildKind}
 use Rattle.zio_types.specs.declared.request.Phase.{Phase}
 use Rattle.zio_masks.specs.declared.stage.Stage.{Stage}
@@ -18,7 +19,7 @@ use Rattle.zio_stages.specs.declared.own_write.OwnWrite.{OwnWrite}
 use Rattle.zio_stages.specs.declared.part_node.PartNode.{PartNode}
 use Rattle.zio_stages.specs.declared.request_node.Own.{Own}
 use Rattle.zio_stages.specs.declared.request_node.Own.TheVariants.{Claim, Due, Found, Free, Over, Read, Stored, Write}
-use Rattle.zio_nodes.specs.StageMoves.{GoesBack, HasKidsLeft, HasMembersLeft, grows_at, is_last_pass, is_leaf, is_second_of, retries_body, stage_of, stalls_at}
+use Rattle.zio_nodes.specs.StageMoves.{GoesBack, HasKidsLeft, HasMembersLeft, IsLeafDue, grows_at, is_last_pass, is_second_of, retries_body, stage_of, stalls_at}
 use Rattle.zio_nodes.specs.declared.node.Node.{Node}
 
 -- ---- it waits, or hands out
@@ -37,8 +38,8 @@ grows_so node stage kind is h other behind =
 
 -- ---- members
 
-pub one_more_few : (old new : List Member) (child : PartNode) → new ≡ with_member (Some child) old → length new ≤ 3 → length old < 3
-one_more_few old new child e few =
+pub one_more_few : (old new : List Member) → new ≡ with_member old → length new ≤ 3 → length old < 3
+one_more_few old new e few =
     let longer : length new ≡ length old + 1 = ap length e ∙ length-append old (MemberOut ∷ []) in
     omega (arith, longer, few)
 
@@ -54,8 +55,8 @@ few_under Over child h = absurd h
 
 -- ---- it goes back
 
-pub goes_back : (node after : Node) → stage_of node ≡ VdevIoDone → is_leaf node ≡ false → GoesBack (stage_of node) node after
-goes_back node after is other = subst (λ (s : Stage). GoesBack s node after) (sym is) other
+pub goes_back : (tops : List Top) (node after : Node) → stage_of node ≡ VdevIoDone → IsLeafDue tops after → GoesBack (stage_of node) node after
+goes_back tops node after is due = subst (λ (s : Stage). GoesBack s node after) (sym is) (tops, due)
 
 pub goes_again : (node after : Node) → stage_of node ≡ VdevIoAssess → is_last_pass node ≡ false → is_last_pass after ≡ true → GoesBack (stage_of node) node after
 goes_again node after is was now = subst (λ (s : Stage). GoesBack s node after) (sym is) (was, now)

@@ -17,7 +17,7 @@ use Rattle.zio_children.specs.RequestKids.{KidsUnderWay}
 use Rattle.zio_frames.specs.Frames.{Child}
 use Rattle.zio_exchange.specs.Wholes.{joined}
 use Rattle.zio_exchange.specs.declared.waiting.UnfinishedRequest.{UnfinishedRequest}
-use Rattle.zio_stages.specs.PartNodes.{IsMemberUnder}
+use Rattle.zio_stages.specs.PartNodes.{IsMemberUnder, with_member}
 use Rattle.zio_stages.specs.RequestCounts.{HasNextMember, asked_of, members_of, path_of}
 use Rattle.zio_stages.specs.RequestKinds.{is_stored}
 use Rattle.zio_stages.specs.RequestNodes.{IsOwnOver}
@@ -27,6 +27,7 @@ use Rattle.zio_stages.specs.declared.own_write.OwnWrite.{OwnWrite}
 use Rattle.zio_stages.specs.declared.part_node.PartNode.{PartNode}
 use Rattle.zio_stages.specs.declared.request_node.Own.{Own}
 use Rattle.zio_stages.specs.declared.request_node.Own.TheVariants.{Claim as ClaimOwn, Due, Found, Free as FreeOwn, Over, Read as ReadOwn, Stored, Write as WriteOwn}
+use Rattle.zio_stages.specs.RequestStages.{with_own}
 use Rattle.zio_stages.specs.declared.request_node.RequestNode.{RequestNode}
 use Rattle.zio_nodes.specs.Bounds.{part_max}
 use Rattle.zio_nodes.specs.RequestAts.{AreOutBehind, RequestStands, StandsAt, WriteStands, gave_by}
@@ -187,6 +188,14 @@ grows_in child a Over members path under = absurd under
 pub next_grows : (child : PartNode) (a b : Own) → HasNextMember child a b
     → members_left b + part_max (8 - length child.work.own.part.path) + 1 ≡ members_left a
 next_grows child a b h = grows_in child a b h.members h.path h.under
+
+-- places were asked for before that
+pub asked_before : (child : PartNode) (a mid b : Own) → members_of mid ≡ members_of a → path_of mid ≡ path_of a → HasNextMember child mid b → HasNextMember child a b
+asked_before child a mid b members path next = record { members = next.members ∙ ap with_member members; path = next.path ∙ path; under = next.under }
+
+-- its children are the same
+pub same_family : (r mid : RequestNode) → mid ≡ with_own r mid.own r.family → mid ≡ with_own r mid.own mid.family
+same_family r mid rest = rest ∙ ap (with_own r mid.own) (sym (ap (λ (x : RequestNode). x.family) rest))
 
 -- ---- its operations on leaves
 

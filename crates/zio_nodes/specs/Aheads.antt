@@ -12,7 +12,6 @@ use Rattle.zio_nodes.specs.declared.ahead.Ahead.TheVariants.{OfRead, OfWrite}
 use Rattle.zio_nodes.specs.declared.leaf_at.LeafAt.{LeafAt}
 use Rattle.zio_nodes.specs.declared.node.Node.{Node}
 use Rattle.zio_nodes.specs.declared.node.Node.TheVariants.{Leaf, Request}
-use Rattle.zio_nodes.specs.declared.node_box.NodeBox.{NodeBox}
 use Rattle.zio_nodes.specs.declared.request_at.RequestAt.{RequestAt}
 
 -- It is a write at WriteCompress, whose children owe that stage nothing, and this is its block.
@@ -40,6 +39,3 @@ abbrev pub FitsNode : Node → Ahead → Type 0
 FitsNode (Request at) ahead = FitsRequest at ahead
 FitsNode (Leaf at) ahead = FitsLeaf at ahead
 FitsNode _ ahead = ⊥
-
-abbrev pub FitsBox : NodeBox → Ahead → Type 0
-FitsBox x ahead = FitsNode x.node.value ahead

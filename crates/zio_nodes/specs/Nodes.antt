@@ -2,6 +2,7 @@
 use Rattle.std.specs.Prelude.{◌≡◌, ℕ, List, [], Bool, true, false}
 use Rattle.zio_types.specs.declared.place.Place.{Place}
 use Rattle.zio_types.specs.declared.place.Top.{Top}
+use Rattle.zio_types.specs.declared.request.ChildKind.TheVariants.{Vdev}
 use Rattle.zio_gang.specs.Attempts.{Terms}
 use Rattle.zio_frames.specs.Frames.{Stack}
 use Rattle.zio_exchange.specs.SpaceCalls.{SpaceCall}
@@ -25,11 +26,12 @@ use Rattle.zio_nodes.specs.TreeAts.{IsTreeAt, IsTreeAtOver}
 pub use Rattle.zio_nodes.specs.TreeAts.{IsTreeOver}
 use Rattle.zio_nodes.specs.declared.node.Node.{Node}
 use Rattle.zio_nodes.specs.declared.node.Node.TheVariants.{Copies, Empty, Heads, Leaf, Part, Request, Tree}
-use Rattle.zio_nodes.specs.declared.node_box.NodeBox.{NodeBox}
+use Rattle.zio_nodes.specs.declared.node_box.Kept.{Kept}
+use Rattle.zio_nodes.specs.declared.node_box.Kept.TheVariants.{Leaf as Itself, Other as Boxed}
 use Rattle.zio_nodes.specs.declared.turn.Last.{Last}
 use Rattle.zio_nodes.specs.declared.turn.Last.TheVariants.{End as LastEnds, Wait as LastWaits}
 use Rattle.zio_nodes.specs.declared.turn.Turn.{Turn}
-use Rattle.zio_nodes.specs.declared.turn.Turn.TheVariants.{End as Ended, Grow as Grown, Leaf as Handed, Next as On, Ready as Told, Wait as Waiting}
+use Rattle.zio_nodes.specs.declared.turn.Turn.TheVariants.{Ask as Asked, End as Ended, Grow as Grown, Leaf as Handed, Next as On, Ready as Told, Wait as Waiting}
 
 -- it is so far in its part of the round's work
 abbrev pub IsNode : Terms → Node → Stack → Type 0
@@ -96,6 +98,7 @@ abbrev pub moved : Node → Turn → Move Node
 moved node On = Next node
 moved node (Waiting kind phase) = Wait node kind phase
 moved node (Grown child kind) = Grow node child.value kind
+moved node (Asked at) = Grow node (Leaf at) Vdev
 moved node (Handed op leaf bytes) = ToLeaf node op leaf bytes
 moved node (Told pointer) = Ready node pointer
 moved node (Ended outcome) = End outcome.value
@@ -113,18 +116,10 @@ abbrev pub is_tree : Node → Bool
 is_tree (Tree at) = true
 is_tree _ = false
 
--- the same of nodes in boxes
-abbrev pub boxed_nodes : Nodes NodeBox
-boxed_nodes = record {
-  Is = λ t x st. IsNode t x.node.value st;
-  told = λ x. told_of x.node.value;
-  left = λ x. left_of x.node.value;
-  gave = λ x. gave_of x.node.value;
-  due = λ x. IsNodeDue x.node.value;
-}
-
-abbrev pub IsBoxOver : List Top → NodeBox → Type 0
-IsBoxOver tops x = IsNodeOver tops x.node.value
+-- the node that is kept so
+abbrev pub node_in : Kept → Node
+node_in (Itself at) = Leaf at
+node_in (Boxed node) = node.value
 
 -- ---- stages that ask nothing of the space
 

@@ -1,5 +1,6 @@
 -- At which stage a node is, which stages it takes, and where its moves leave it.
 use Rattle.std.specs.Prelude.{◌≡◌, ◌<◌, ◌≤◌, ◌⊎◌, ◌||◌, Bool, IsTrue, List, [], None, Option, Some, false, length, true}
+use Rattle.zio_types.specs.declared.place.Top.{Top}
 use Rattle.zio_types.specs.declared.request.ChildKind.{ChildKind}
 use Rattle.zio_types.specs.declared.request.ChildKind.TheVariants.{Gang, Logical, Vdev}
 use Rattle.zio_types.specs.declared.request.Kind.{Kind}
@@ -26,14 +27,16 @@ use Rattle.zio_masks.specs.declared.stage.Stage.TheVariants.{
 use Rattle.zio_parts.specs.declared.members.Member.{Member}
 use Rattle.zio_script.specs.Requests.{kind_of}
 use Rattle.zio_exchange.specs.SpaceCalls.{AreAsks, AreReturns, IsClaimAtMost, SpaceCall}
-use Rattle.zio_stages.specs.PartWorks.{is_second}
-use Rattle.zio_stages.specs.RequestCounts.{members_of}
-use Rattle.zio_stages.specs.ReadIos.{has_failed}
+use Rattle.zio_stages.specs.PartWorks.{IsMoreDue, is_second}
+use Rattle.zio_stages.specs.ReadCounts.{IsOneDue}
+use Rattle.zio_stages.specs.RequestCounts.{IsMoreDueWrite, members_of}
+use Rattle.zio_stages.specs.ReadIos.{IsReadStep, has_failed}
 use Rattle.zio_stages.specs.RequestKinds.{has_gang_stages}
-use Rattle.zio_stages.specs.RequestReads.{has_read_failed}
+use Rattle.zio_stages.specs.RequestReads.{IsReadingWith, has_read_failed}
 use Rattle.zio_stages.specs.declared.own_read.BodyIo.{BodyIo}
 use Rattle.zio_stages.specs.declared.request_node.Own.{Own}
 use Rattle.zio_stages.specs.declared.request_node.Own.TheVariants.{Claim, Due, Found, Free, Over, Read as ReadOwn, Stored, Write as WriteOwn}
+use Rattle.zio_stages.specs.declared.write_io.IoStep.TheVariants.{Child}
 use Rattle.zio_nodes.specs.SealedMoves.{Move}
 use Rattle.zio_staged.specs.declared.staged.Move.TheVariants.{End, Grow, Leaf as ToLeaf, Next, Ready as Tell, Wait}
 use Rattle.zio_nodes.specs.NodeNames.{handed_by, unfinished_at}
@@ -136,10 +139,6 @@ is_last_pass (Tree at) = true
 is_last_pass (Request at) = is_second_of at.node.own
 is_last_pass Empty = true
 
-abbrev pub is_leaf : Node → Bool
-is_leaf (Leaf at) = true
-is_leaf _ = false
-
 -- ---- where it goes
 
 -- the first of these stages after another
@@ -148,9 +147,16 @@ pub record IsNextOf (takes_it : Stage → Bool) (stage next : Stage) : Type 0 wh
   pub later : number_of stage < number_of next
   pub first : (other : Stage) → IsTrue (takes_it other) → number_of stage < number_of other → number_of next ≤ number_of other
 
+-- another operation on a leaf is due for it in its pass, as its plan goes over such tops: a copy that is to be tried, or a repair
+abbrev pub IsLeafDue : List Top → Node → Type 0
+IsLeafDue tops (Copies at) = IsReadStep tops at.node.io Child
+IsLeafDue tops (Part at) = IsMoreDue tops at.node.work.io
+IsLeafDue tops (Request at) = IsReadingWith (IsOneDue tops) at.node.own ⊎ IsMoreDueWrite tops at.node.own
+IsLeafDue tops _ = ⊥
+
 -- From there it goes back to its operations on leaves: for another that is due, or for a second pass.
 abbrev pub GoesBack : Stage → Node → Node → Type 0
-GoesBack VdevIoDone node after = is_leaf node ≡ false
+GoesBack VdevIoDone node after = (tops : List Top) × IsLeafDue tops after
 GoesBack VdevIoAssess node after = (is_last_pass node ≡ false) × (is_last_pass after ≡ true)
 GoesBack _ node after = ⊥
 

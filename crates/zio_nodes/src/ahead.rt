@@ -22,7 +22,7 @@ use zio_stages::Block;
 use zio_types::Kind;
 
 /// From so many bytes on what is to be summed is worth a thread.
-const HEAVY_LEN: usize = 4096;
+pub(crate) const HEAVY_LEN: usize = 4096;
 
 /// What was reckoned of a node before its turn.
 #[derive(Drop)]
@@ -38,7 +38,7 @@ impl Node {
     pub fn is_heavy(&self) -> bool {
         match self {
             Node::Request(at) => at.is_heavy(),
-            Node::Leaf(at) => at.has_to_sum(HEAVY_LEN),
+            Node::Leaf(at) => at.is_heavy(),
             Node::Copies(_) | Node::Heads(_) | Node::Part(_) | Node::Tree(_) | Node::Empty => false,
         }
     }

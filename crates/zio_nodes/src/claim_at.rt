@@ -106,8 +106,14 @@ impl RequestAt {
         ensures stages { IfOk result
             (λ turn. IsStageMove (Node.Request self.old) (moved (Node.Request self.new) turn)) }
     {
-        let mut room = new_room(alloc)?;
         let Ok(()) = self.node.begin_claim(alloc, tops) else {
+            return Err(NoMemory);
+        };
+        if !self.node.is_walk_due_claim() {
+            self.stage = next(Stage::GangAssemble, with_gang(CLAIM));
+            return Ok(Turn::Next);
+        }
+        let Ok(mut room) = new_room(alloc) else {
             return Err(NoMemory);
         };
         match self.node.gang_assemble_claim(alloc, tops) {
@@ -116,10 +122,7 @@ impl RequestAt {
                 *room = Node::Heads(child);
                 Ok(Turn::Grow(room, ChildKind::Gang))
             }
-            Ok(None) => {
-                self.stage = next(Stage::GangAssemble, with_gang(CLAIM));
-                Ok(Turn::Next)
-            }
+            Ok(None) => unreachable!(),
             Err(NoMemory) => Err(NoMemory),
         }
     }

@@ -20,7 +20,7 @@ ghost use Rattle.zio_nodes.specs.Told.{is_told};
 use crate::leaf_at::LeafAt;
 use crate::node::Node;
 use crate::read_io_at::behind_assess;
-use crate::turn::{Turn, new_room};
+use crate::turn::Turn;
 use std::alloc::Global;
 use zio_exchange::unsummed;
 use zio_masks::{READ, Stage, next};
@@ -157,12 +157,10 @@ impl CopiesAt {
         ensures pass { IfOk result
             (λ turn. KeepsPassAt self.old.stage (Node.Copies self.old) (moved (Node.Copies self.new) turn)) }
     {
-        let mut room = new_room(alloc)?;
         match self.node.vdev_io_start(alloc, tops) {
             Ok(Some(work)) => {
                 let child = LeafAt::new(work);
-                *room = Node::Leaf(child);
-                Ok(Turn::Grow(room, ChildKind::Vdev))
+                Ok(Turn::Ask(child))
             }
             Ok(None) => {
                 self.stage = next(Stage::VdevIoStart, READ);

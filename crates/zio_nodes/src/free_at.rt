@@ -150,6 +150,10 @@ impl RequestAt {
         ensures stages { IfOk result
             (λ turn. IsStageMove (Node.Request self.old) (moved (Node.Request self.new) turn)) }
     {
+        if !self.node.is_walk_due_free() {
+            self.stage = next(Stage::GangAssemble, with_gang(FREE));
+            return Ok(Turn::Next);
+        }
         let mut room = new_room(alloc)?;
         match self.node.gang_assemble_free(alloc) {
             Ok(Some(walk)) => {
@@ -157,10 +161,7 @@ impl RequestAt {
                 *room = Node::Heads(child);
                 Ok(Turn::Grow(room, ChildKind::Gang))
             }
-            Ok(None) => {
-                self.stage = next(Stage::GangAssemble, with_gang(FREE));
-                Ok(Turn::Next)
-            }
+            Ok(None) => unreachable!(),
             Err(NoMemory) => Err(NoMemory),
         }
     }

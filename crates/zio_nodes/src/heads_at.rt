@@ -7,6 +7,7 @@ ghost use Rattle.zio_gang.specs.Attempts.{Terms};
 ghost use Rattle.zio_trace.specs.Tasks.{Task, Value};
 ghost use Rattle.zio_frames.specs.Frames.{Child, Stack};
 ghost use Rattle.zio_frames.specs.Moves.{heard_early, heard_of};
+ghost use Rattle.zio_parts.specs.HeadWalks.{ShowsWalk};
 ghost use Rattle.zio_stages.specs.HeadsNodes.{IsHeadsNode, IsHeadsOver};
 ghost use Rattle.zio_staged.specs.Stages.{EachIn, Hears, HearsEarly, HearsSome, HearsSomeEarly, Lessens, MayGoOn};
 ghost use Rattle.zio_nodes.specs.Bounds.{heads_left, walk_max};
@@ -22,7 +23,8 @@ use crate::stall::gang_stall;
 use crate::turn::{Last, Turn, new_room};
 use std::alloc::Global;
 use zio_masks::{INTERLOCK, Stage, next, with_gang};
-use zio_stages::{Family, HeadsNode, Outcome, WalkStage, reads_tell_no_pointer};
+use zio_parts::{MemberWalk, WalkStep};
+use zio_stages::{Family, HeadsNode, Outcome, reads_tell_no_pointer};
 use zio_types::{ChildKind, NoMemory, Phase, Top};
 
 /// The walk over headers at a stage of its pipeline.
@@ -118,25 +120,72 @@ impl HeadsAt {
         ensures stages { IfOk result (λ turn. IsStageMove (Node.Heads self.old) (moved (Node.Heads self.new) turn)) }
         ensures leaves { IfOk result (λ turn. LeavesGang self.old.node.family (moved (Node.Heads self.new) turn)) }
     {
-        let mut room = new_room(alloc)?;
-        match self.node.gang_assemble(alloc, tops) {
-            Ok(WalkStage::Head(child)) => {
-                let child = CopiesAt::new(child);
-                *room = Node::Copies(child);
-                Ok(Turn::Grow(room, ChildKind::Gang))
-            }
-            Ok(WalkStage::Below(child)) => {
-                let child = HeadsAt::new(alloc, child);
-                *room = Node::Heads(child);
-                Ok(Turn::Grow(room, ChildKind::Gang))
-            }
-            Ok(WalkStage::Wait) => { Ok(Turn::Wait(ChildKind::Gang, Phase::Done)) }
-            Ok(WalkStage::On) => {
+        match self.node.next() {
+            WalkStep::ReadHead => self.hand_out_head(alloc, tops),
+            WalkStep::Member(member) => self.hand_out_below(alloc, tops, member),
+            WalkStep::Wait => Ok(Turn::Wait(ChildKind::Gang, Phase::Done)),
+            WalkStep::End => {
                 if let Some((kind, phase)) = gang_stall(self.node.family()) {
                     return Ok(Turn::Wait(kind, phase));
                 }
                 self.stage = next(Stage::GangAssemble, with_gang(INTERLOCK));
                 Ok(Turn::Next)
+            }
+        }
+    }
+
+    /// Hands the read of the header to a child. Where memory is refused it is as it was.
+    fn hand_out_head(&mut self, alloc: Global, tops: &[Top]) -> Result<Turn, NoMemory>
+        requires over { IsHeadsAtOver tops.now self.old }
+        requires stage { self.old.stage ≡ Stage.GangAssemble }
+        requires step { ShowsWalk self.old.node.work.walk WalkStep.ReadHead }
+        ensures moves { IfOk result
+            (λ turn. MovesBare tops.now (Node.Heads self.old) (moved (Node.Heads self.new) turn)) }
+        ensures over { IfOk result
+            (λ turn. EachIn (IsNodeOver tops.now) (IsTreeOver tops.now) (moved (Node.Heads self.new) turn)) }
+        ensures may { IfOk result (λ turn. MayGoOn IsNodeDue (moved (Node.Heads self.new) turn)) }
+        ensures left { IfOk result (λ turn. Lessens left_of (Node.Heads self.old) (moved (Node.Heads self.new) turn)) }
+        ensures refused { OnErr result (StaysBare tops.now (Node.Heads self.old) (Node.Heads self.new)) }
+        ensures stages { IfOk result (λ turn. IsStageMove (Node.Heads self.old) (moved (Node.Heads self.new) turn)) }
+        ensures leaves { IfOk result (λ turn. LeavesGang self.old.node.family (moved (Node.Heads self.new) turn)) }
+    {
+        let mut room = new_room(alloc)?;
+        match self.node.hand_out_head(alloc, tops) {
+            Ok(read) => {
+                let child = CopiesAt::new(read);
+                *room = Node::Copies(child);
+                Ok(Turn::Grow(room, ChildKind::Gang))
+            }
+            Err(NoMemory) => Err(NoMemory),
+        }
+    }
+
+    /// Hands the walk below this member to a child. Where memory is refused it is as it was.
+    fn hand_out_below(
+        &mut self,
+        alloc: Global,
+        tops: &[Top],
+        member: MemberWalk,
+    ) -> Result<Turn, NoMemory>
+        requires over { IsHeadsAtOver tops.now self.old }
+        requires stage { self.old.stage ≡ Stage.GangAssemble }
+        requires step { ShowsWalk self.old.node.work.walk (WalkStep.Member member) }
+        ensures moves { IfOk result
+            (λ turn. MovesBare tops.now (Node.Heads self.old) (moved (Node.Heads self.new) turn)) }
+        ensures over { IfOk result
+            (λ turn. EachIn (IsNodeOver tops.now) (IsTreeOver tops.now) (moved (Node.Heads self.new) turn)) }
+        ensures may { IfOk result (λ turn. MayGoOn IsNodeDue (moved (Node.Heads self.new) turn)) }
+        ensures left { IfOk result (λ turn. Lessens left_of (Node.Heads self.old) (moved (Node.Heads self.new) turn)) }
+        ensures refused { OnErr result (StaysBare tops.now (Node.Heads self.old) (Node.Heads self.new)) }
+        ensures stages { IfOk result (λ turn. IsStageMove (Node.Heads self.old) (moved (Node.Heads self.new) turn)) }
+        ensures leaves { IfOk result (λ turn. LeavesGang self.old.node.family (moved (Node.Heads self.new) turn)) }
+    {
+        let mut room = new_room(alloc)?;
+        match self.node.hand_out_below(alloc, tops, member) {
+            Ok(walk) => {
+                let child = HeadsAt::new(alloc, walk);
+                *room = Node::Heads(child);
+                Ok(Turn::Grow(room, ChildKind::Gang))
             }
             Err(NoMemory) => Err(NoMemory),
         }

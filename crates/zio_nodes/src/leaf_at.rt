@@ -1,6 +1,6 @@
 //! An operation on a leaf, from stage to stage: it is handed to its leaf, and ends with what that answers.
 
-ghost use Rattle.std.specs.Prelude.{◌≡◌, ◌≢◌, ◌<◌, ◌≤◌, IfSome, List as Seq, false};
+ghost use Rattle.std.specs.Prelude.{◌≡◌, ◌≢◌, ◌<◌, ◌≤◌, IfOk, IfSome, List as Seq, OnErr, false};
 ghost use Rattle.zio_types.specs.declared.place.Top.{Top as SeenTop};
 ghost use Rattle.zio_gang.specs.Attempts.{Terms};
 ghost use Rattle.zio_trace.specs.Leaves.{Answer, LeafOp};
@@ -8,21 +8,23 @@ ghost use Rattle.zio_trace.specs.Tasks.{Got, Leaf};
 ghost use Rattle.zio_frames.specs.Frames.{fresh_frame, fresh_stack};
 ghost use Rattle.zio_frames.specs.Moves.{done_at_once};
 ghost use Rattle.zio_stages.specs.LeafWorks.{IsDue, IsLeafWork};
-ghost use Rattle.zio_staged.specs.declared.staged.Move.TheVariants.{Next};
+ghost use Rattle.zio_staged.specs.declared.staged.Move.TheVariants.{End, Next};
 ghost use Rattle.zio_staged.specs.Stages.{EachIn, Lessens, MayGoOn, ShowsAnswer};
 ghost use Rattle.zio_nodes.specs.Aheads.{FitsLeaf};
 ghost use Rattle.zio_nodes.specs.Bounds.{leaf_left, leaf_max};
 ghost use Rattle.zio_nodes.specs.LeafAts.{IsLeafAt, LeafStands};
 ghost use Rattle.zio_nodes.specs.StageMoves.{IsLastMove, IsStageMove};
 ghost use Rattle.zio_nodes.specs.Nodes.{IsNodeDue, IsNodeOver, IsTreeOver, MovesBare, last_moved, left_of, moved};
+ghost use Rattle.zio_nodes.specs.Stalls.{LeavesNone};
 ghost use Rattle.zio_nodes.specs.Told.{is_told};
 
-use crate::ahead::Ahead;
+use crate::ahead::{Ahead, HEAVY_LEN};
 use crate::node::Node;
-use crate::turn::{Last, Turn};
+use crate::turn::{Last, Turn, end_room};
+use std::alloc::Global;
 use zio_masks::{Stage, VDEV_CHILD, next};
 use zio_stages::{LeafWork, Outcome};
-use zio_types::{Bytes, Errno, List};
+use zio_types::{Bytes, Errno, List, NoMemory};
 
 /// An operation on a leaf at a stage of its pipeline.
 #[derive(Drop)]
@@ -55,6 +57,28 @@ impl LeafAt {
         ensures { result ≡ self.now.stage }
     {
         self.stage
+    }
+
+    /// Runs one stage, while no leaf has it. Where memory is refused, which its end takes, it is as before.
+    pub(crate) fn step(&mut self, alloc: Global) -> Result<Turn, NoMemory>
+        requires stands { LeafStands self.old.stage self.old.is_out self.old.work }
+        requires due { self.old.is_out ≡ false }
+        ensures moves { (tops : Seq SeenTop) → IfOk result
+            (λ turn. MovesBare tops (Node.Leaf self.old) (moved (Node.Leaf self.new) turn)) }
+        ensures over { (tops : Seq SeenTop) → IfOk result
+            (λ turn. EachIn (IsNodeOver tops) (IsTreeOver tops) (moved (Node.Leaf self.new) turn)) }
+        ensures may { IfOk result (λ turn. MayGoOn IsNodeDue (moved (Node.Leaf self.new) turn)) }
+        ensures left { IfOk result (λ turn. Lessens left_of (Node.Leaf self.old) (moved (Node.Leaf self.new) turn)) }
+        ensures stages { IfOk result (λ turn. IsStageMove (Node.Leaf self.old) (moved (Node.Leaf self.new) turn)) }
+        ensures leaves { IfOk result (λ turn. LeavesNone (Node.Leaf self.old) (moved (Node.Leaf self.new) turn)) }
+        ensures same { OnErr result (self.new ≡ self.old) }
+    {
+        if self.stage == Stage::Done {
+            let mut room = end_room(alloc)?;
+            *room = self.end();
+            return Ok(Turn::End(room));
+        }
+        Ok(self.run_stage())
     }
 
     /// Runs one stage before its last, while no leaf has it.
@@ -113,9 +137,9 @@ impl LeafAt {
         Turn::Next
     }
 
-    /// Whether its leaf answered with so many bytes or more, whose checksum is wanted.
-    pub(crate) fn has_to_sum(&self, len: usize) -> bool {
-        self.stage == Stage::VdevIoDone && self.work.len_to_sum() >= len
+    /// Whether its leaf answered with 4 KiB or more, whose checksum is wanted.
+    pub(crate) fn is_heavy(&self) -> bool {
+        self.stage == Stage::VdevIoDone && self.work.len_to_sum() >= HEAVY_LEN
     }
 
     /// The checksum of what was read, once its leaf answered, if one is wanted.
@@ -165,6 +189,17 @@ impl LeafAt {
     }
 
     /// Ends with what the leaf answered.
+    fn end(&mut self) -> Outcome
+        requires stands { LeafStands self.old.stage self.old.is_out self.old.work }
+        requires stage { self.old.stage ≡ Stage.Done }
+        ensures moves { (tops : Seq SeenTop) → MovesBare tops (Node.Leaf self.old) (End result) }
+        ensures over { (tops : Seq SeenTop) → EachIn (IsNodeOver tops) (IsTreeOver tops) (End result) }
+        ensures left { Lessens left_of (Node.Leaf self.old) (End result) }
+    {
+        Outcome::Found(self.work.take_found())
+    }
+
+    /// The same as a last stage.
     pub(crate) fn done(&mut self) -> Last
         requires stands { LeafStands self.old.stage self.old.is_out self.old.work }
         requires stage { self.old.stage ≡ Stage.Done }
@@ -175,7 +210,7 @@ impl LeafAt {
         ensures last { IsLastMove (last_moved (Node.Leaf self.new) result) }
         ensures left { Lessens left_of (Node.Leaf self.old) (last_moved (Node.Leaf self.new) result) }
     {
-        Last::End(Outcome::Found(self.work.take_found()))
+        Last::End(self.end())
     }
 
     /// The leaf answered: an error or none, and of a read the bytes of its place, of which the first are kept that were

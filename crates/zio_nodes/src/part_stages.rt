@@ -18,7 +18,7 @@ use crate::turn::{Last, Turn, new_room};
 use std::alloc::Global;
 use zio_exchange::Services;
 use zio_masks::{Stage, WRITE, next};
-use zio_stages::{Allocated, DoneStep, IoNext, Outcome, ReadyStep};
+use zio_stages::{DoneStep, IoNext, Outcome, ReadyStep};
 use zio_types::{ChildKind, NoMemory, Phase, Top};
 
 impl PartAt {
@@ -42,17 +42,22 @@ impl PartAt {
         ensures tops { S.tops services.new ≡ S.tops services.old }
         ensures stages { IfOk result (λ turn. IsStageMove (Node.Part self.old) (moved (Node.Part self.new) turn)) }
     {
-        let mut room = new_room(alloc)?;
-        match self.node.dva_allocate(alloc, services) {
-            Ok(Allocated::Member(child)) => {
-                let child = PartAt::new(child);
+        let Ok(()) = self.node.dva_allocate(alloc, services) else {
+            return Err(NoMemory);
+        };
+        if !self.node.is_member_due() {
+            self.stage = next(Stage::DvaAllocate, WRITE);
+            self.is_due = true;
+            return Ok(Turn::Next);
+        }
+        let Ok(mut room) = new_room(alloc) else {
+            return Err(NoMemory);
+        };
+        match self.node.next_member(alloc) {
+            Ok(member) => {
+                let child = PartAt::new(member);
                 *room = Node::Part(child);
                 Ok(Turn::Grow(room, ChildKind::Gang))
-            }
-            Ok(Allocated::Placed) => {
-                self.stage = next(Stage::DvaAllocate, WRITE);
-                self.is_due = true;
-                Ok(Turn::Next)
             }
             Err(NoMemory) => Err(NoMemory),
         }
@@ -95,12 +100,10 @@ impl PartAt {
         ensures pass { IfOk result
             (λ turn. KeepsPassAt self.old.stage (Node.Part self.old) (moved (Node.Part self.new) turn)) }
     {
-        let mut room = new_room(alloc)?;
         match self.node.vdev_io_start(alloc, tops) {
             Ok(Some(work)) => {
                 let child = LeafAt::new(work);
-                *room = Node::Leaf(child);
-                Ok(Turn::Grow(room, ChildKind::Vdev))
+                Ok(Turn::Ask(child))
             }
             Ok(None) => {
                 self.stage = next(Stage::VdevIoStart, WRITE);

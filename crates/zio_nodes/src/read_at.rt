@@ -6,6 +6,7 @@
 ghost use Rattle.std.specs.Prelude.{◌≡◌, ◌≢◌, IfOk, List as Seq, OnErr, false, true};
 ghost use Rattle.zio_types.specs.declared.place.Top.{Top as SeenTop};
 ghost use Rattle.zio_script.specs.Requests.{kind_of};
+ghost use Rattle.zio_stages.specs.RequestReads.{IsBodyNext, IsReadingWith};
 ghost use Rattle.zio_staged.specs.Stages.{EachIn, Lessens, MayGoOn};
 ghost use Rattle.zio_nodes.specs.Stalls.{LeavesGang};
 ghost use Rattle.zio_nodes.specs.Passes.{KeepsPassAt};
@@ -22,6 +23,7 @@ use crate::turn::{Last, Turn, new_room};
 use std::alloc::Global;
 use zio_exchange::Services;
 use zio_masks::{INTERLOCK, READ, Stage, next, with_gang};
+use zio_parts::BodyRead;
 use zio_stages::{BodyStage, ReadDone};
 use zio_types::{ChildKind, Kind, NoMemory, Phase, Top};
 
@@ -134,6 +136,10 @@ impl RequestAt {
         ensures stages { IfOk result
             (λ turn. IsStageMove (Node.Request self.old) (moved (Node.Request self.new) turn)) }
     {
+        if !self.node.is_walk_due_read() {
+            self.stage = next(Stage::GangAssemble, with_gang(READ));
+            return Ok(Turn::Next);
+        }
         let mut room = new_room(alloc)?;
         match self.node.gang_assemble_read(alloc) {
             Ok(Some(walk)) => {
@@ -141,10 +147,7 @@ impl RequestAt {
                 *room = Node::Heads(child);
                 Ok(Turn::Grow(room, ChildKind::Gang))
             }
-            Ok(None) => {
-                self.stage = next(Stage::GangAssemble, with_gang(READ));
-                Ok(Turn::Next)
-            }
+            Ok(None) => unreachable!(),
             Err(NoMemory) => Err(NoMemory),
         }
     }
@@ -167,20 +170,48 @@ impl RequestAt {
             (λ turn. IsStageMove (Node.Request self.old) (moved (Node.Request self.new) turn)) }
         ensures leaves { IfOk result (λ turn. LeavesGang self.old.node.family (moved (Node.Request self.new) turn)) }
     {
-        let mut room = new_room(alloc)?;
-        match self.node.gang_issue_read(alloc, tops) {
-            Ok(BodyStage::Body(body)) => {
-                let child = CopiesAt::new(body);
-                *room = Node::Copies(child);
-                Ok(Turn::Grow(room, ChildKind::Gang))
-            }
-            Ok(BodyStage::Wait) => { Ok(Turn::Wait(ChildKind::Gang, Phase::Done)) }
-            Ok(BodyStage::On) => {
+        match self.node.next_body() {
+            BodyStage::Body(body) => self.hand_out_body(alloc, tops, body),
+            BodyStage::Wait => Ok(Turn::Wait(ChildKind::Gang, Phase::Done)),
+            BodyStage::On => {
                 if let Some((kind, phase)) = gang_stall(self.node.family()) {
                     return Ok(Turn::Wait(kind, phase));
                 }
                 self.stage = next(Stage::GangIssue, INTERLOCK);
                 Ok(Turn::Next)
+            }
+        }
+    }
+
+    /// Hands the read of this body to a child. Where memory is refused it is as it was.
+    fn hand_out_body(
+        &mut self,
+        alloc: Global,
+        tops: &[Top],
+        body: BodyRead,
+    ) -> Result<Turn, NoMemory>
+        requires over { IsRequestAtOver tops.now self.old }
+        requires kind { kind_of self.old.node.waiting.request.work ≡ Kind.Read }
+        requires stage { self.old.stage ≡ Stage.GangIssue }
+        requires next { IsReadingWith (IsBodyNext body) self.old.node.own }
+        ensures moves { IfOk result
+            (λ turn. MovesBare tops.now (Node.Request self.old) (moved (Node.Request self.new) turn)) }
+        ensures over { IfOk result
+            (λ turn. EachIn (IsNodeOver tops.now) (IsTreeOver tops.now) (moved (Node.Request self.new) turn)) }
+        ensures may { IfOk result (λ turn. MayGoOn IsNodeDue (moved (Node.Request self.new) turn)) }
+        ensures left { IfOk result
+            (λ turn. Lessens left_of (Node.Request self.old) (moved (Node.Request self.new) turn)) }
+        ensures refused { OnErr result (StaysBare tops.now (Node.Request self.old) (Node.Request self.new)) }
+        ensures stages { IfOk result
+            (λ turn. IsStageMove (Node.Request self.old) (moved (Node.Request self.new) turn)) }
+        ensures leaves { IfOk result (λ turn. LeavesGang self.old.node.family (moved (Node.Request self.new) turn)) }
+    {
+        let mut room = new_room(alloc)?;
+        match self.node.gang_issue_read(alloc, tops, body) {
+            Ok(read) => {
+                let child = CopiesAt::new(read);
+                *room = Node::Copies(child);
+                Ok(Turn::Grow(room, ChildKind::Gang))
             }
             Err(NoMemory) => Err(NoMemory),
         }

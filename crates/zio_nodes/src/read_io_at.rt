@@ -11,7 +11,7 @@ ghost use Rattle.zio_nodes.specs.RequestAts.{IsRequestAtOver};
 use crate::leaf_at::LeafAt;
 use crate::node::Node;
 use crate::request_at::RequestAt;
-use crate::turn::{Turn, new_room};
+use crate::turn::Turn;
 use std::alloc::Global;
 use zio_masks::{INTERLOCK, READ, Stage, next};
 use zio_stages::IoNext;
@@ -37,12 +37,10 @@ impl RequestAt {
         ensures pass { IfOk result
             (λ turn. KeepsPassAt self.old.stage (Node.Request self.old) (moved (Node.Request self.new) turn)) }
     {
-        let mut room = new_room(alloc)?;
         match self.node.vdev_io_start_read(alloc, tops) {
             Ok(Some(work)) => {
                 let child = LeafAt::new(work);
-                *room = Node::Leaf(child);
-                Ok(Turn::Grow(room, ChildKind::Vdev))
+                Ok(Turn::Ask(child))
             }
             Ok(None) => {
                 self.stage = next(Stage::VdevIoStart, READ);

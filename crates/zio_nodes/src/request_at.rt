@@ -214,8 +214,13 @@ impl RequestAt {
         ensures stages { IfOk result
             (λ turn. IsStageMove (Node.Request self.old) (moved (Node.Request self.new) turn)) }
     {
-        let mut room = new_room(alloc)?;
         let mask = self.mask();
+        if !self.node.has_child_due() {
+            self.stage = next(Stage::Start, mask);
+            self.is_due = true;
+            return Ok(Turn::Next);
+        }
+        let mut room = new_room(alloc)?;
         match self.node.start() {
             Ok(Start::Child { whole, .. }) => {
                 // A tree has a request at least.
@@ -229,11 +234,7 @@ impl RequestAt {
                 *room = Node::Tree(child);
                 Ok(Turn::Grow(room, ChildKind::Logical))
             }
-            Ok(Start::AllOut) => {
-                self.stage = next(Stage::Start, mask);
-                self.is_due = true;
-                Ok(Turn::Next)
-            }
+            Ok(Start::AllOut) => unreachable!(),
             Err(NoMemory) => Err(NoMemory),
         }
     }

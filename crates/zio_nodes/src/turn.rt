@@ -1,5 +1,6 @@
 //! What a stage comes to where the node stays in its place.
 
+use crate::leaf_at::LeafAt;
 use crate::node::Node;
 use std::alloc::Global;
 use zio_blkptr::Bp;
@@ -17,6 +18,8 @@ pub enum Turn {
     Wait(ChildKind, Phase),
     /// This is its new child.
     Grow(Box<Node>, ChildKind),
+    /// This operation on a leaf is its new child, of kind vdev.
+    Ask(LeafAt),
     /// An operation for the leaf of this number, with the bytes of a write.
     Leaf(Op, u32, Shared),
     /// Its value will have this pointer, or none.

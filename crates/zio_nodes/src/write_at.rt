@@ -22,7 +22,7 @@ use crate::turn::{Last, Turn, new_room};
 use std::alloc::Global;
 use zio_exchange::Services;
 use zio_masks::{Stage, WRITE, next};
-use zio_stages::{Allocated, Content, DoneStep, IoNext, ReadyStep};
+use zio_stages::{Content, DoneStep, IoNext, ReadyStep};
 use zio_types::{ChildKind, Kind, NoMemory, Phase, Top};
 
 impl RequestAt {
@@ -166,16 +166,21 @@ impl RequestAt {
         ensures stages { IfOk result
             (λ turn. IsStageMove (Node.Request self.old) (moved (Node.Request self.new) turn)) }
     {
-        let mut room = new_room(alloc)?;
-        match self.node.dva_allocate(alloc, services) {
-            Ok(Allocated::Member(child)) => {
-                let child = PartAt::new(child);
+        let Ok(()) = self.node.dva_allocate(alloc, services) else {
+            return Err(NoMemory);
+        };
+        if !self.node.is_member_due() {
+            self.stage = next(Stage::DvaAllocate, WRITE);
+            return Ok(Turn::Next);
+        }
+        let Ok(mut room) = new_room(alloc) else {
+            return Err(NoMemory);
+        };
+        match self.node.next_member(alloc) {
+            Ok(member) => {
+                let child = PartAt::new(member);
                 *room = Node::Part(child);
                 Ok(Turn::Grow(room, ChildKind::Gang))
-            }
-            Ok(Allocated::Placed) => {
-                self.stage = next(Stage::DvaAllocate, WRITE);
-                Ok(Turn::Next)
             }
             Err(NoMemory) => Err(NoMemory),
         }
@@ -223,12 +228,10 @@ impl RequestAt {
         ensures pass { IfOk result
             (λ turn. KeepsPassAt self.old.stage (Node.Request self.old) (moved (Node.Request self.new) turn)) }
     {
-        let mut room = new_room(alloc)?;
         match self.node.vdev_io_start_write(alloc, tops) {
             Ok(Some(work)) => {
                 let child = LeafAt::new(work);
-                *room = Node::Leaf(child);
-                Ok(Turn::Grow(room, ChildKind::Vdev))
+                Ok(Turn::Ask(child))
             }
             Ok(None) => {
                 self.stage = next(Stage::VdevIoStart, WRITE);

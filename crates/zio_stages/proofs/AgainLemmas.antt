@@ -9,33 +9,13 @@ use Rattle.zio_trace.specs.Plans.{Kids, one_of}
 use Rattle.zio_trace.specs.Tasks.{AttemptedBy, Got, Wrote, Found, StoredAs, WalkedBy, Taken, SettledBy}
 use Rattle.zio_children.specs.RequestKids.{RiseFrom, kids_by}
 use Rattle.zio_frames.specs.Slots.{Heard, IsOut, Slot}
-use Rattle.zio_parts.specs.Gathers.{as_counted}
 use Rattle.zio_exchange.specs.declared.waiting.UnfinishedRequest.{UnfinishedRequest}
 use Rattle.zio_exchange.specs.Wholes.{AreTrees, IsForestOf, IsLeft, IsTreeOf, IsWhole, joined, number_or, root_number, root_of, roots_in}
 use Rattle.zio_exchange.proofs.ForestLemmas.{one_forest}
-use Rattle.zio_exchange.proofs.WholeLemmas.{PutSoFar, root_last}
+use Rattle.zio_exchange.proofs.WholeLemmas.{root_last}
 use Rattle.zio_stages.specs.KidTrees.{AreLeft, AreNumbered, trees_left}
 
 -- ---- what is left
-
-left_append : (xs ys : List (Option (List UnfinishedRequest))) → trees_left (xs ++ ys) ≡ trees_left xs ++ trees_left ys
-left_append [] ys = refl
-left_append (None ∷ xs) ys = left_append xs ys
-left_append (Some ws ∷ xs) ys = ap (λ (ts : List (List UnfinishedRequest)). ws ∷ ts) (left_append xs ys)
-
-joined_append : (xs ys : List (List UnfinishedRequest)) → joined (xs ++ ys) ≡ joined xs ++ joined ys
-joined_append xs ys = flat_map-append (λ (ws : List UnfinishedRequest). ws) xs ys
-
-pub left_more : (xs : List (Option (List UnfinishedRequest))) (i room size after : ℕ) (x : Option (List UnfinishedRequest))
-    → room ≡ as_counted (length (joined (trees_left (take i xs))) + 1) → i < length xs → x ≡ get_or xs i x
-    → size ≡ length (joined (trees_left (x ∷ [])))
-    → after ≡ as_counted (room + size) → after ≡ as_counted (length (joined (trees_left (take (i + 1) xs))) + 1)
-left_more xs i room size after x h l is s more =
-    let all : joined (trees_left (take (i + 1) xs)) ≡ joined (trees_left (take i xs)) ++ joined (trees_left (x ∷ [])) =
-    ap (λ (ys : List (Option (List UnfinishedRequest))). joined (trees_left ys))
-    (take_more xs i x l ∙ ap (λ (y : Option (List UnfinishedRequest)). take i xs ++ y ∷ []) (sym is))
-    ∙ ap joined (left_append (take i xs) (x ∷ [])) ∙ joined_append (trees_left (take i xs)) (trees_left (x ∷ [])) in
-    omega (arith, h, s, more, ap length all, length-append (joined (trees_left (take i xs))) (joined (trees_left (x ∷ []))))
 
 pub all_left : (ns : List ℕ) (again : List (Option (List UnfinishedRequest))) → AreNumbered ns again
     → AllByRecursion IsWhole (trees_left again)
@@ -60,11 +40,6 @@ rise_left least (n ∷ ns) (None ∷ again) r h =
 rise_left least (n ∷ ns) (Some ws ∷ again) r h =
     subst (λ (o : Option ℕ). RiseFrom least (number_or o (roots_in (trees_left again)))) (sym h.0.0)
     (r.0, rise_left (n + 1) ns again r.1 h.1)
-
-pub left_few : (again : List (Option (List UnfinishedRequest))) → length (trees_left again) ≤ length again
-left_few [] = omega arith
-left_few (None ∷ again) = let l : length (trees_left again) ≤ length again = left_few again in omega arith
-left_few (Some ws ∷ again) = let l : length (trees_left again) ≤ length again = left_few again in omega arith
 
 -- ---- what attempts left
 
@@ -120,86 +95,43 @@ left_of_one k one p ws e h l = record {
   list = (λ i. l i ++ e i) ∙ sym (ap (λ (ps : List Pending). flat (root_left ps k.left)) e);
 }
 
--- ---- putting them behind one another
+-- ---- putting them beside one another
 
 -- so many trees are there already, and this is left to be put there
-pub record AgainSoFar (again rest : List (Option (List UnfinishedRequest))) (all : List UnfinishedRequest) (room unfinished : ℕ) : Type 0 where
-  pub put : PutSoFar (trees_left again) (trees_left rest) all room
-  pub count : unfinished + length (trees_left rest) ≡ length (trees_left again)
+pub record LeftSoFar (again rest : List (Option (List UnfinishedRequest))) (left : List (List UnfinishedRequest)) (room : ℕ) : Type 0 where
+  pub list : left ++ trees_left rest ≡ trees_left again
+  pub enough : length left + length rest ≤ room
 
-pub again_begins : (again rest : List (Option (List UnfinishedRequest))) (all : List UnfinishedRequest) (room : ℕ) → again ≡ rest → all ≡ []
-    → length (joined (trees_left again)) + 1 ≤ room → AgainSoFar again rest all room 0
-again_begins again rest all room same none enough = record {
-  put = record {
-    list = ap (λ (ws : List UnfinishedRequest). ws ++ joined (trees_left rest)) none
-        ∙ ap (λ (xs : List (Option (List UnfinishedRequest))). joined (trees_left xs)) (sym same);
-    enough = enough;
-  };
-  count = omega (arith, ap (λ (xs : List (Option (List UnfinishedRequest))). length (trees_left xs)) same);
+pub left_begins : (again rest : List (Option (List UnfinishedRequest))) (left : List (List UnfinishedRequest)) (room : ℕ) → rest ≡ again → left ≡ []
+    → length again ≤ room → LeftSoFar again rest left room
+left_begins again rest left room same none enough = record {
+  list = (λ i. none i ++ trees_left (same i));
+  enough = omega (arith, ap length none, ap length same, enough);
 }
 
-joined_first : (x : Option (List UnfinishedRequest)) (next : List (Option (List UnfinishedRequest)))
-    → joined (trees_left (x ∷ next)) ≡ joined (trees_left (x ∷ [])) ++ joined (trees_left next)
-joined_first x next = ap joined (left_append (x ∷ []) next) ∙ joined_append (trees_left (x ∷ [])) (trees_left next)
-
-count_first : (x : Option (List UnfinishedRequest)) (next : List (Option (List UnfinishedRequest)))
-    → length (trees_left (x ∷ next)) ≡ length (trees_left (x ∷ [])) + length (trees_left next)
-count_first x next = ap length (left_append (x ∷ []) next) ∙ length-append (trees_left (x ∷ [])) (trees_left next)
-
-pub again_next : (again rest next : List (Option (List UnfinishedRequest))) (x : Option (List UnfinishedRequest)) (all after : List UnfinishedRequest)
-    (room now unfinished more : ℕ)
-    → AgainSoFar again rest all room unfinished → rest ≡ x ∷ next
-    → after ≡ all ++ joined (trees_left (x ∷ [])) → room ≤ now → more ≡ length (trees_left (x ∷ []))
-    → AgainSoFar again next after now (unfinished + more)
-again_next again rest next x all after room now unfinished more h first is wide one = record {
-  put = record {
-    list = ap (λ (ws : List UnfinishedRequest). ws ++ joined (trees_left next)) is
-        ∙ append_assoc all (joined (trees_left (x ∷ []))) (joined (trees_left next))
-        ∙ ap (λ (ws : List UnfinishedRequest). all ++ ws) (sym (joined_first x next))
-        ∙ ap (λ (xs : List (Option (List UnfinishedRequest))). all ++ joined (trees_left xs)) (sym first) ∙ h.put.list;
-    enough = omega (arith, h.put.enough, wide);
-  };
-  count = omega (arith, h.count, one, count_first x next, ap (λ (xs : List (Option (List UnfinishedRequest))). length (trees_left xs)) first);
+pub left_skips : (again rest next : List (Option (List UnfinishedRequest))) (left : List (List UnfinishedRequest)) (room : ℕ) → LeftSoFar again rest left room
+    → rest ≡ None ∷ next → LeftSoFar again next left room
+left_skips again rest next left room h first = record {
+  list = ap (λ (xs : List (Option (List UnfinishedRequest))). left ++ trees_left xs) (sym first) ∙ h.list;
+  enough = omega (arith, h.enough, ap length first);
 }
 
-pub again_fits : (again rest next : List (Option (List UnfinishedRequest))) (x : Option (List UnfinishedRequest)) (all : List UnfinishedRequest) (room unfinished : ℕ)
-    → AgainSoFar again rest all room unfinished → rest ≡ x ∷ next
-    → length all + length (joined (trees_left (x ∷ []))) ≤ room
-again_fits again rest next x all room unfinished h first =
-    omega (
-      arith,
-      h.put.enough,
-      ap length h.put.list,
-      length-append all (joined (trees_left rest)),
-      ap (λ (xs : List (Option (List UnfinishedRequest))). length (joined (trees_left xs))) first,
-      ap length (joined_first x next),
-      length-append (joined (trees_left (x ∷ []))) (joined (trees_left next)),
-    )
+pub left_next : (again rest next : List (Option (List UnfinishedRequest))) (ws : List UnfinishedRequest) (left after : List (List UnfinishedRequest)) (room now : ℕ)
+    → LeftSoFar again rest left room → rest ≡ Some ws ∷ next → after ≡ left ++ ws ∷ [] → room ≤ now → LeftSoFar again next after now
+left_next again rest next ws left after room now h first is wide = record {
+  list = ap (λ (ts : List (List UnfinishedRequest)). ts ++ trees_left next) is ∙ append_assoc left (ws ∷ []) (trees_left next)
+      ∙ ap (λ (xs : List (Option (List UnfinishedRequest))). left ++ trees_left xs) (sym first) ∙ h.list;
+  enough = omega (arith, h.enough, wide, ap length first, ap length is, length-append left (ws ∷ []));
+}
 
--- no more trees than children
-pub again_counts : (again rest next : List (Option (List UnfinishedRequest))) (x : Option (List UnfinishedRequest)) (all : List UnfinishedRequest)
-    (room unfinished more : ℕ)
-    → AgainSoFar again rest all room unfinished → rest ≡ x ∷ next → more ≡ length (trees_left (x ∷ []))
-    → unfinished + more ≤ length again
-again_counts again rest next x all room unfinished more h first one =
-    omega (
-      arith,
-      h.count,
-      one,
-      count_first x next,
-      ap (λ (xs : List (Option (List UnfinishedRequest))). length (trees_left xs)) first,
-      left_few again,
-    )
+pub left_fits : (again rest next : List (Option (List UnfinishedRequest))) (ws : List UnfinishedRequest) (left : List (List UnfinishedRequest)) (room : ℕ)
+    → LeftSoFar again rest left room → rest ≡ Some ws ∷ next → length left < room
+left_fits again rest next ws left room h first = omega (arith, h.enough, ap length first)
 
-pub again_all : (again rest : List (Option (List UnfinishedRequest))) (all : List UnfinishedRequest) (room unfinished : ℕ)
-    → AgainSoFar again rest all room unfinished → rest ≡ [] → all ≡ joined (trees_left again)
-again_all again rest all room unfinished h none =
-    sym (append-nil all) ∙ ap (λ (xs : List (Option (List UnfinishedRequest))). all ++ joined (trees_left xs)) (sym none) ∙ h.put.list
-
-pub again_count : (again rest : List (Option (List UnfinishedRequest))) (all : List UnfinishedRequest) (room unfinished : ℕ)
-    → AgainSoFar again rest all room unfinished → rest ≡ [] → unfinished ≡ length (trees_left again)
-again_count again rest all room unfinished h none =
-    omega (arith, h.count, ap (λ (xs : List (Option (List UnfinishedRequest))). length (trees_left xs)) none)
+pub left_all : (again rest : List (Option (List UnfinishedRequest))) (left : List (List UnfinishedRequest)) (room : ℕ) → LeftSoFar again rest left room
+    → rest ≡ [] → left ≡ trees_left again
+left_all again rest left room h none =
+    sym (append-nil left) ∙ ap (λ (xs : List (Option (List UnfinishedRequest))). left ++ trees_left xs) (sym none) ∙ h.list
 
 pub number_last : (front all : List UnfinishedRequest) (w : UnfinishedRequest) → all ≡ front ++ w ∷ [] → root_number all ≡ Some w.request.number
 number_last front all w is =

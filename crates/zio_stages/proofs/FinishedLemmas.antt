@@ -14,7 +14,7 @@ use Rattle.zio_exchange.specs.declared.waiting.UnfinishedRequest.{UnfinishedRequ
 use Rattle.zio_exchange.specs.Wholes.{AreTrees, IsWhole}
 use Rattle.zio_stages.specs.KidTrees.{AreLeft, IsKids, IsLeftIn, KidsHeld, trees_left}
 use Rattle.zio_stages.proofs.AgainLemmas.{LeftBy, left_by}
-use Rattle.zio_stages.proofs.SplitLemmas.{reverse_first}
+use Rattle.zio_stages.proofs.ReverseLemmas.{reverse_first}
 
 -- ---- bits
 

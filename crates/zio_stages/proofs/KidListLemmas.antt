@@ -10,7 +10,7 @@ use Rattle.zio_stages.specs.KidLists.{IsLeftList}
 use Rattle.zio_stages.specs.KidPointers.{HasValid, HaveValidPointers}
 use Rattle.zio_stages.specs.KidTrees.{KidsHeld, trees_left}
 use Rattle.zio_stages.proofs.KidPointerLemmas.{IsValidIn, IsValidReturn, children_valid, kept_valid, merged_valid, returns_valid}
-use Rattle.zio_stages.proofs.SplitLemmas.{all_reversed}
+use Rattle.zio_stages.proofs.ReverseLemmas.{all_reversed}
 
 pub none_left_of : (n : ℕ) → trees_left (replicate n None) ≡ []
 none_left_of zero = refl
@@ -41,11 +41,11 @@ finished_valid x h =
 -- ---- what goes again
 
 pub left_list : (ws : List UnfinishedRequest) (w : UnfinishedRequest) (x : KidsHeld) (kept : List KeptChild) → map child_of kept ≡ finished_in x.kids
-    → (below : ℕ) × (ws ≡ joined (trees_left x.again) ++ counted (record w { kept = kept }) (length (trees_left x.again)) below ∷ [])
+    → ws ≡ joined (trees_left x.again) ++ counted (record w { kept = kept }) (length (trees_left x.again)) ∷ []
     → IsLeftList ws w x
 left_list ws w x kept same list = record {
-  root = counted (record w { kept = kept }) (length (trees_left x.again)) list.0;
-  list = list.1;
+  root = counted (record w { kept = kept }) (length (trees_left x.again));
+  list = list;
   request = refl;
   birth = refl;
   block = refl;

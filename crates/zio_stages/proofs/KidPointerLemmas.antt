@@ -17,7 +17,7 @@ use Rattle.zio_children.proofs.KidReturns.{same_pointers}
 use Rattle.zio_gang.specs.Pointers.{IsNoneOrValid}
 use Rattle.zio_stages.specs.KidPointers.{HasToldValid, HasValid, HaveValidPointers}
 use Rattle.zio_stages.specs.WrittenBlocks.{HaveAllTold}
-use Rattle.zio_stages.proofs.SplitLemmas.{all_reversed, reverse_first}
+use Rattle.zio_stages.proofs.ReverseLemmas.{all_reversed, reverse_first}
 
 -- ---- children at their places
 

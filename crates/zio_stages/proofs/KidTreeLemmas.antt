@@ -8,13 +8,12 @@ use Rattle.zio_children.specs.RequestKids.{Fits, IsDue, KidsUnderWay, RiseFrom, 
 use Rattle.zio_children.specs.declared.kept.KeptChild.{KeptChild}
 use Rattle.zio_exchange.specs.declared.waiting.UnfinishedRequest.{UnfinishedRequest}
 use Rattle.zio_exchange.specs.Waits.{pending_of}
-use Rattle.zio_exchange.specs.Wholes.{AreTrees, IsForestOf, IsTreeOf, IsWhole, Shape, joined, number_or, root_number, roots_in, shape_of, shapes, trees_in}
+use Rattle.zio_exchange.specs.Wholes.{AreOver, AreTrees, IsForestOf, IsTreeOf, IsWhole, Shape, joined, number_or, root_number, roots_in, shape_of, shapes, trees_in}
 use Rattle.zio_exchange.proofs.ForestLemmas.{one_forest}
 use Rattle.zio_exchange.proofs.WholeLemmas.{AreForest, forest_of, root_number_is, trees_forest, trees_roots}
 use Rattle.zio_stages.specs.KidLists.{AreBegun, AreMarked}
 use Rattle.zio_stages.specs.KidTrees.{AreHeld, AreLeft, AreNumbered, IsKids, KidsHeld}
-use Rattle.zio_stages.specs.Splits.{AreSoMany, AreTaken}
-use Rattle.zio_stages.proofs.SplitLemmas.{all_reversed, reverse_first}
+use Rattle.zio_stages.proofs.ReverseLemmas.{reverse_first, reverse_twice}
 
 -- ---- the numbers of roots
 
@@ -56,33 +55,25 @@ pub record Begun (front : List UnfinishedRequest) (root : UnfinishedRequest) (p 
 pub begun : (ws front : List UnfinishedRequest) (root : UnfinishedRequest) (p : Pending) (kids : Forest) → ws ≡ front ++ root ∷ []
     → IsTreeOf ws p kids → Begun front root p kids
 begun ws front root p kids is h =
-    let s : Shape = record { pending = p; unfinished = trees_in kids; below = length (flat kids) } in
+    let s : Shape = record { pending = p; unfinished = trees_in kids } in
     let e : (map shape_of front ≡ shapes kids) × (shape_of root ≡ s) =
     same_from_push (map shape_of front) (shapes kids) (shape_of root) s
     (sym (map-append shape_of front (root ∷ [])) ∙ ap (map shape_of) (sym is) ∙ h) in
     record { seen = ap (λ (x : Shape). x.pending) e.1; under = e.0; count = ap (λ (x : Shape). x.unfinished) e.1 }
 
-pub so_many : (ws front : List UnfinishedRequest) (root : UnfinishedRequest) → ws ≡ front ++ root ∷ [] → IsWhole ws → AreSoMany front root.unfinished
-so_many ws front root is h =
-    let b : Begun front root h.root h.kids = begun ws front root h.root h.kids is h.is in
-    record { forest = h.kids; is = b.under; count = b.count; top = h.rising.0; rising = h.rising.1 }
-
 -- ---- the trees under it
+
+-- they rise, turned round again
+pub due_rise : (w : UnfinishedRequest) (trees due : List (List UnfinishedRequest)) → AreOver trees w → due ≡ reverse trees
+    → RiseFrom 0 (roots_in (reverse due))
+due_rise w trees due h turned =
+    subst (λ (ts : List (List UnfinishedRequest)). RiseFrom 0 (roots_in ts)) (sym (ap reverse turned ∙ reverse_twice trees)) h.rising
 
 pub trees_are : (trees : List (List UnfinishedRequest)) (ws : List UnfinishedRequest) (f : Forest) → AllByRecursion IsWhole trees
     → joined trees ≡ ws → IsForestOf ws f → AreTrees trees f
 trees_are trees ws f h is of =
     let g : AreForest trees = forest_of trees h in
     subst (AreTrees trees) (one_forest ws g.forest f (ap (map shape_of) (sym is) ∙ trees_forest trees g.forest g.are) of) g.are
-
-pub taken_all : (old new : List UnfinishedRequest) (due : List (List UnfinishedRequest)) → AreTaken old new due → new ≡ []
-    → joined (reverse due) ≡ old
-taken_all old new due h none = ap (λ (ws : List UnfinishedRequest). ws ++ joined (reverse due)) (sym none) ∙ h.list
-
-pub due_rise : (ws new : List UnfinishedRequest) (n : ℕ) (due : List (List UnfinishedRequest)) → AreSoMany ws n → AreTaken ws new due → new ≡ []
-    → RiseFrom 0 (roots_in (reverse due))
-due_rise ws new n due h t none =
-    subst (RiseFrom 0) (sym (trees_roots (reverse due) h.forest (trees_are (reverse due) ws h.forest (all_reversed IsWhole due t.whole) (taken_all ws new due t none) h.is))) h.top
 
 due_numbers : (numbers : List ℕ) → numbers_of (due_kids numbers) ≡ numbers
 due_numbers [] = refl
@@ -136,23 +127,26 @@ held_is : (due : List (List UnfinishedRequest)) (kept : List KeptChild) (kids : 
 held_is due kept kids again ek ea =
     λ i. record { kids = sym ek i; due = reverse due; again = (ap (λ n. replicate n None) (length-reverse due) ∙ sym ea) i }
 
-pub begun_held : (ws new : List UnfinishedRequest) (n : ℕ) (due : List (List UnfinishedRequest)) (kept : List KeptChild) (kids : KidsUnderWay)
-    (again : List (Option (List UnfinishedRequest)))
-    → AreSoMany ws n → AreTaken ws new due → new ≡ []
+-- the children's trees are held the last first
+pub begun_held : (w : UnfinishedRequest) (trees due : List (List UnfinishedRequest)) (kept : List KeptChild) (kids : KidsUnderWay)
+    (again : List (Option (List UnfinishedRequest))) → AreOver trees w → due ≡ reverse trees
     → kids ≡ fresh_kids (roots_in (reverse due)) kept → again ≡ replicate (length due) None
     → AreHeld (record { kids = kids; due = reverse due; again = again })
-begun_held ws new n due kept kids again h t none ek ea =
+begun_held w trees due kept kids again h turned ek ea =
+    let back : trees ≡ reverse due = sym (ap reverse turned ∙ reverse_twice trees) in
     subst AreHeld (held_is due kept kids again ek ea)
-    (first_are_held (reverse due) kept (all_reversed IsWhole due t.whole) (due_rise ws new n due h t none))
+    (first_are_held (reverse due) kept (subst (AllByRecursion IsWhole) back h.each) (due_rise w trees due h turned))
 
-pub begun_kids : (ws new : List UnfinishedRequest) (due : List (List UnfinishedRequest)) (kept : List KeptChild) (kids : KidsUnderWay)
-    (again : List (Option (List UnfinishedRequest))) (attempt : ℕ) (forest : Forest)
-    → AreTaken ws new due → new ≡ []
+pub begun_kids : (w : UnfinishedRequest) (trees due : List (List UnfinishedRequest)) (kept : List KeptChild) (kids : KidsUnderWay)
+    (again : List (Option (List UnfinishedRequest))) (attempt : ℕ) (forest : Forest) → AreOver trees w → due ≡ reverse trees
     → kids ≡ fresh_kids (roots_in (reverse due)) kept → again ≡ replicate (length due) None → Fits kids []
-    → IsForestOf ws forest → IsKids (record { kids = kids; due = reverse due; again = again }) attempt forest [] []
-begun_kids ws new due kept kids again attempt forest t none ek ea fits of =
+    → IsForestOf (joined trees) forest → IsKids (record { kids = kids; due = reverse due; again = again }) attempt forest [] []
+begun_kids w trees due kept kids again attempt forest h turned ek ea fits of =
+    let back : trees ≡ reverse due = sym (ap reverse turned ∙ reverse_twice trees) in
     subst (λ (x : KidsHeld). IsKids x attempt forest [] []) (held_is due kept kids again ek ea)
-    (first_is_kids (reverse due) kept attempt forest (trees_are (reverse due) ws forest (all_reversed IsWhole due t.whole) (taken_all ws new due t none) of) (subst (λ (x : KidsUnderWay). Fits x []) ek fits))
+    (first_is_kids (reverse due) kept attempt forest
+    (subst (λ (ts : List (List UnfinishedRequest)). AreTrees ts forest) back (trees_are trees (joined trees) forest h.each refl of))
+    (subst (λ (x : KidsUnderWay). Fits x []) ek fits))
 
 fresh_marked : (ns : List ℕ) (n : ℕ) → length ns ≡ n → AreMarked (due_kids ns) (replicate n None)
 fresh_marked [] zero e = tt
@@ -164,28 +158,17 @@ fresh_due : (ns : List ℕ) → AllByRecursion IsDue (due_kids ns)
 fresh_due [] = tt
 fresh_due (n ∷ ns) = (refl, fresh_due ns)
 
-trees_count : (trees : List (List UnfinishedRequest)) (f : Forest) → AreTrees trees f → length trees ≡ trees_in f
-trees_count [] NoTrees h = refl
-trees_count [] (TreeOf p below others) h = absurd h
-trees_count (ws ∷ trees) NoTrees h = absurd h
-trees_count (ws ∷ trees) (TreeOf p below others) h = ap suc (trees_count trees others h.1)
-
 first_begun : (w : UnfinishedRequest) (trees : List (List UnfinishedRequest)) (kept : List KeptChild) → AllByRecursion IsWhole trees → length trees ≡ w.unfinished
     → AreBegun w (first_held trees kept)
 first_begun w trees kept h count =
     let same : length (due_kids (roots_in trees)) ≡ length (roots_in trees) = length-map (roots_in trees) _ in
     record { count = same ∙ roots_count trees h ∙ count; marked = fresh_marked (roots_in trees) (length trees) (roots_count trees h); handed = fresh_due (roots_in trees) }
 
-pub are_begun : (w : UnfinishedRequest) (ws new : List UnfinishedRequest) (due : List (List UnfinishedRequest)) (kept : List KeptChild) (kids : KidsUnderWay)
-    (again : List (Option (List UnfinishedRequest)))
-    → AreSoMany ws w.unfinished → AreTaken ws new due → new ≡ []
+pub are_begun : (w : UnfinishedRequest) (trees due : List (List UnfinishedRequest)) (kept : List KeptChild) (kids : KidsUnderWay)
+    (again : List (Option (List UnfinishedRequest))) → AreOver trees w → due ≡ reverse trees
     → kids ≡ fresh_kids (roots_in (reverse due)) kept → again ≡ replicate (length due) None
     → AreBegun w (record { kids = kids; due = reverse due; again = again })
-are_begun w ws new due kept kids again h t none ek ea =
-    let each : AllByRecursion IsWhole (reverse due) = all_reversed IsWhole due t.whole in
-    let are : AreTrees (reverse due) h.forest = trees_are (reverse due) ws h.forest each (taken_all ws new due t none) h.is in
-    subst (AreBegun w) (held_is due kept kids again ek ea) (first_begun w (reverse due) kept each (trees_count (reverse due) h.forest are ∙ sym h.count))
-
-pub when_ok : {T E P : Type 0} (r : Result T E) (b : Bool) → b ≡ is_ok r → b ≡ true → OnOk r P → P
-when_ok (Ok x) b e t h = h
-when_ok (Err x) b e t h = let no : false ≡ true = sym e ∙ t in absurd (cc)
+are_begun w trees due kept kids again h turned ek ea =
+    let back : trees ≡ reverse due = sym (ap reverse turned ∙ reverse_twice trees) in
+    subst (AreBegun w) (held_is due kept kids again ek ea)
+    (first_begun w (reverse due) kept (subst (AllByRecursion IsWhole) back h.each) (sym (h.count ∙ ap length back)))

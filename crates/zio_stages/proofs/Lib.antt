@@ -84,7 +84,7 @@ pub mod RequestReadMoves
 pub mod RequestSits
 pub mod RequestStoredLemmas
 pub mod RequestWriteLemmas
-pub mod SplitLemmas
+pub mod ReverseLemmas
 pub mod ToldLemmas
 pub mod TreeLemmas
 pub mod Within

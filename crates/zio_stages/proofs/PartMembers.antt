@@ -17,7 +17,8 @@ use Rattle.zio_parts.specs.PartWrites.{is_due, step_of}
 use Rattle.zio_parts.specs.declared.members.Member.TheVariants.{Out as MemberOut}
 use Rattle.zio_parts.specs.declared.parts.OwnWrite.{OwnWrite}
 use Rattle.zio_parts.specs.declared.parts.OwnWrite.TheVariants.{Due}
-use Rattle.zio_parts.specs.declared.parts.PartStep.TheVariants.{Member as MemberStep}
+use Rattle.zio_parts.specs.declared.parts.PartStep.{PartStep}
+use Rattle.zio_parts.specs.declared.parts.PartStep.TheVariants.{AskBody, AskHead, End, Member as MemberStep, Wait, WaitReady, WriteBody, WriteHeader}
 use Rattle.zio_parts.specs.declared.parts.Placing.{Placing}
 use Rattle.zio_parts.specs.declared.parts.Placing.TheVariants.{Body, Head as HeadDue, Whole, Gang, Nowhere}
 use Rattle.zio_stages.specs.NodeChildren.{new_child}
@@ -25,7 +26,7 @@ use Rattle.zio_stages.specs.NodeIos.{NoneSits}
 use Rattle.zio_stages.specs.OwnParts.{HandsTo}
 use Rattle.zio_stages.specs.PartNodes.{IsFreshPart, IsMemberUnder}
 use Rattle.zio_stages.specs.PartOwns.{HandsMember, WrittenPart, member_of, part_task}
-use Rattle.zio_stages.specs.PartWorks.{Front, IsFront, IsIdle, IsIoOver, IsPartAt, IsPartOver}
+use Rattle.zio_stages.specs.PartWorks.{Front, IsFront, IsIdle, IsMemberNext, IsIoOver, IsPartAt, IsPartOver}
 use Rattle.zio_stages.specs.WriteIos.{AreIoPlaces, IsOutIn}
 use Rattle.zio_stages.specs.declared.family.Layer.TheVariants.{Within}
 use Rattle.zio_stages.specs.declared.part.PartOwn.{PartOwn}
@@ -54,6 +55,17 @@ member_number x n is due =
     let g = gang_member x.placing x n is in
     let many : length (slots_at x.placing x) ≡ 2 + length x.members = slots_many x.placing x g.gang due in
     omega (arith, many, g.next.number)
+
+-- what is due is a member
+pub member_only : (step : PartStep) → IsMemberNext step → ((n : ℕ) → step ≡ MemberStep n → ⊥) → ⊥
+member_only AskBody is never = is
+member_only AskHead is never = is
+member_only WriteBody is never = is
+member_only WriteHeader is never = is
+member_only (MemberStep n) is never = never n refl
+member_only WaitReady is never = is
+member_only Wait is never = is
+member_only End is never = is
 
 -- nor is one that is the same
 pub idle_with : (a b : OwnWrite) → a ≡ b → IsIdle b → IsIdle a

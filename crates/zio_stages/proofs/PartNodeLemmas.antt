@@ -16,12 +16,10 @@ use Rattle.zio_exchange.specs.Outcomes.{held_by, places_in}
 use Rattle.zio_exchange.specs.SpaceCalls.{SpaceCall}
 use Rattle.zio_stages.specs.NodeIos.{StartsBy}
 use Rattle.zio_stages.specs.OwnParts.{DoesThen, HandsTo}
-use Rattle.zio_stages.specs.PartNodes.{ComesTo, IsPartNode, no_front}
+use Rattle.zio_stages.specs.PartNodes.{IsPartNode, no_front}
 use Rattle.zio_stages.specs.PartOwns.{WrittenPart, part_plan, part_task}
 use Rattle.zio_stages.specs.PartWorks.{IsFront}
 use Rattle.zio_stages.specs.declared.leaf.LeafWork.{LeafWork}
-use Rattle.zio_stages.specs.declared.part_node.Allocated.{Allocated}
-use Rattle.zio_stages.specs.declared.part_node.Allocated.TheVariants.{Member, Placed}
 use Rattle.zio_stages.specs.declared.part_node.PartNode.{PartNode}
 use Rattle.zio_stages.proofs.PartMoves.{does_map, does_then, none_within}
 
@@ -32,11 +30,6 @@ own_front t o = record { whole = refl; count = refl; follows = λ slots op h. h 
 
 pub hands_map : (t : Terms) (kind : ChildKind) (C : Task → Type 0) (P Q : Stack → Type 0) (st : Stack) → ((next : Stack) → P next → Q next) → HandsTo t kind C P st → HandsTo t kind C Q st
 hands_map t kind C P Q st f h = record { op = h.op; part = h.part; asks = h.asks; of_kind = h.of_kind; child_is = h.child_is; after = f _ h.after }
-
-pub comes_map : {E : Type 0} (t : Terms) (r : Result Allocated E) (P Q : Stack → Type 0) (st : Stack) → ((next : Stack) → P next → Q next) → ComesTo t r P st → ComesTo t r Q st
-comes_map t (Ok (Member child)) P Q st f h = hands_map t _ _ P Q st f h
-comes_map t (Ok Placed) P Q st f h = f st h
-comes_map t (Err e) P Q st f h = f st h
 
 pub starts_map : (t : Terms) (st : Stack) (leaf : Option LeafWork) (P Q : Stack → Type 0) → ((next : Stack) → P next → Q next) → StartsBy t st leaf P → StartsBy t st leaf Q
 starts_map t st None P Q f h = f st h

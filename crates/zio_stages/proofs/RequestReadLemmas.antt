@@ -21,7 +21,7 @@ use Rattle.zio_stages.specs.StoredBlocks.{block_places}
 use Rattle.zio_stages.specs.OwnReads.{IsOwnOver, IsOwnRead, IsOwnReadOver}
 use Rattle.zio_stages.specs.RequestNodes.{IsOwnOf, IsRequestNode, own_got}
 use Rattle.zio_stages.specs.RequestOwns.{IsReadOwn}
-use Rattle.zio_stages.specs.RequestReads.{IsReadWith, IsReadWork}
+use Rattle.zio_stages.specs.RequestReads.{IsReadWith, IsReadWork, IsReadingWith}
 use Rattle.zio_stages.specs.declared.family.Layer.TheVariants.{Within}
 use Rattle.zio_stages.specs.declared.own_read.BodyIo.{BodyIo}
 use Rattle.zio_stages.specs.declared.own_read.OwnRead.{OwnRead}
@@ -113,3 +113,15 @@ not_read P (Free w) h never none = h
 not_read P (Claim w) h never none = h
 not_read P (Found f) h never none = none f refl
 not_read P Over h never none = h
+
+-- ---- what it is
+
+pub reads_only : (P : OwnRead → Type 0) (own : Own) → IsReadingWith P own → ((w : OwnRead) → own ≡ Read w → ⊥) → ⊥
+reads_only P Due h not = h
+reads_only P (Write w) h not = h
+reads_only P (Stored b) h not = h
+reads_only P (Read w) h not = not w refl
+reads_only P (Free w) h not = h
+reads_only P (Claim w) h not = h
+reads_only P (Found own) h not = h
+reads_only P Over h not = h

@@ -1,10 +1,8 @@
 -- The walk over a block's headers, or over a claim's, as a node that does all of it by children.
-use Rattle.std.specs.Prelude.{◌≡◌, ℕ, suc, ◌+◌, ◌≤◌, List, length, slice_get, Bool, true, false, Option, Some, None, IfSome, IsTrue}
+use Rattle.std.specs.Prelude.{◌≡◌, ℕ, suc, ◌≤◌, List, length, slice_get, Bool, true, false, Option, Some, None, IfSome, IsTrue}
 use Rattle.std.specs.List.{AllByRecursion}
 use Rattle.zio_types.specs.declared.place.Place.{Place}
 use Rattle.zio_types.specs.declared.place.Top.{Top}
-use Rattle.zio_types.specs.declared.request.ChildKind.TheVariants.{Gang}
-use Rattle.zio_types.specs.declared.request.Phase.TheVariants.{Done}
 use Rattle.zio_types.specs.Places.{sector_size}
 use Rattle.zio_blkptr.specs.declared.pointer.Bp.{Bp}
 use Rattle.zio_blkptr.specs.Pointers.{places_of, valid}
@@ -14,7 +12,7 @@ use Rattle.zio_gang.specs.Attempts.{Terms}
 use Rattle.zio_gang.specs.Trees.{kept_at}
 use Rattle.zio_trace.specs.Leaves.{Answer}
 use Rattle.zio_trace.specs.Tasks.{Got, Task, Value, Walked, WalkedBy}
-use Rattle.zio_frames.specs.Frames.{Child, Frame, Stack, fresh_stack}
+use Rattle.zio_frames.specs.Frames.{Child, Frame, Stack}
 use Rattle.zio_frames.specs.Seats.{IsSeated}
 use Rattle.zio_frames.specs.Slots.{Slot}
 use Rattle.zio_parts.specs.Copies.{leaves_at}
@@ -22,14 +20,11 @@ use Rattle.zio_parts.specs.HeadWalks.{named_by, slots_of}
 use Rattle.zio_parts.specs.declared.head_walk.Header.{Header}
 use Rattle.zio_parts.specs.declared.head_walk.Header.TheVariants.{Unread}
 use Rattle.zio_exchange.specs.Outcomes.{ClaimsInside, IsReading, IsWalk}
-use Rattle.zio_stages.specs.CopiesNodes.{IsCopiesNode, IsCopiesOver}
 use Rattle.zio_stages.specs.HeadsWorks.{IsHeadsWork, claim_error}
-use Rattle.zio_stages.specs.OwnParts.{HandsTo, HearsValue, IsOwed, ToldSince}
+use Rattle.zio_stages.specs.OwnParts.{HearsValue, ToldSince}
 use Rattle.zio_stages.specs.Tops.{AreTops}
 use Rattle.zio_stages.specs.declared.heads.HeadsWork.{HeadsWork}
 use Rattle.zio_stages.specs.declared.heads_node.HeadsNode.{HeadsNode}
-use Rattle.zio_stages.specs.declared.heads_node.WalkStage.{WalkStage}
-use Rattle.zio_stages.specs.declared.heads_node.WalkStage.TheVariants.{Head as ToHead, Below, Wait, On}
 
 -- ---- as a node
 
@@ -91,46 +86,11 @@ pub record IsHeadsOver (tops : List Top) (node : HeadsNode) : Type 0 where
   pub named : node.name.path ≡ node.work.walk.path
   pub count : length node.family ≡ length (slots_of node.work.walk)
 
--- ---- its stages
-
--- what is next is handed to a child; or it waits for one; or it goes on
-abbrev pub IsWalkStage : Terms → HeadsNode → Stack → WalkStage → Type 0
-IsWalkStage t after st (ToHead child) = HandsTo t Gang (λ op. IsCopiesNode t child (fresh_stack op)) (IsHeadsNode t after) st
-IsWalkStage t after st (Below child) = HandsTo t Gang (λ op. IsHeadsNode t child (fresh_stack op)) (IsHeadsNode t after) st
-IsWalkStage t after st Wait = IsHeadsNode t after st × (IsSeated st → IsOwed Gang Done st)
-IsWalkStage t after st On = IsHeadsNode t after st
-
--- what the child's fields owe
-abbrev pub IsStageOver : List Top → WalkStage → Type 0
-IsStageOver tops (ToHead child) = IsCopiesOver tops child
-IsStageOver tops (Below child) = IsHeadsOver tops child
-IsStageOver tops Wait = Unit {0}
-IsStageOver tops On = Unit {0}
-
--- so many children, with this one if it is one
-abbrev pub with_kid : WalkStage → ℕ → ℕ
-with_kid (ToHead child) n = n + 1
-with_kid (Below child) n = n + 1
-with_kid Wait n = n
-with_kid On n = n
-
--- a walk below a member is one level lower, and nothing of it is done
-abbrev pub IsLevelBelow : ℕ → WalkStage → Type 0
-IsLevelBelow levels (ToHead child) = child.io.asked ≡ 0
-IsLevelBelow levels (Below child) = (child.work.walk.levels + 1 ≡ levels) × (length child.family ≡ 0)
-IsLevelBelow levels Wait = Unit {0}
-IsLevelBelow levels On = Unit {0}
+-- ---- its children
 
 -- its header's read, and a walk below each of three members
 abbrev pub walk_kids_max : ℕ
 walk_kids_max = 4
-
--- a child that is handed out is one of these
-abbrev pub IsFewWith : WalkStage → ℕ → Type 0
-IsFewWith (ToHead child) n = n ≤ walk_kids_max
-IsFewWith (Below child) n = n ≤ walk_kids_max
-IsFewWith Wait n = Unit {0}
-IsFewWith On n = Unit {0}
 
 -- ---- what it hears
 

@@ -37,7 +37,6 @@ pub mod RequestStages
 pub mod RequestStoreds
 pub mod RequestWrites
 pub mod Sealed
-pub mod Splits
 pub mod StoredBlocks
 pub mod Tops
 pub mod TreeWorks

@@ -1,8 +1,7 @@
 -- A gang's member that is written, as a node.
-use Rattle.std.specs.Prelude.{◌≡◌, ℕ, ◌+◌, ◌<◌, ◌≤◌, List, [], ◌∷◌, ◌++◌, length, Option, Some, None, Result, Ok, Err, false, slice_get}
+use Rattle.std.specs.Prelude.{◌≡◌, ℕ, ◌+◌, ◌<◌, ◌≤◌, List, [], ◌∷◌, ◌++◌, length, Option, Some, None, false, slice_get}
 use Rattle.zio_types.specs.declared.error.Errno.{Errno}
 use Rattle.zio_types.specs.declared.place.Top.{Top}
-use Rattle.zio_types.specs.declared.request.ChildKind.TheVariants.{Gang}
 use Rattle.zio_gang.specs.Attempts.{Terms}
 use Rattle.zio_trace.specs.Leaves.{Answer, error_of}
 use Rattle.zio_trace.specs.Tasks.{Got, StoredAs, Task, Value}
@@ -13,11 +12,9 @@ use Rattle.zio_parts.specs.declared.members.Member.{Member as MemberNow}
 use Rattle.zio_parts.specs.declared.members.Member.TheVariants.{Out as MemberOut}
 use Rattle.zio_parts.specs.declared.parts.StoredPart.{StoredPart}
 use Rattle.zio_exchange.specs.Outcomes.{IsKept, IsPart, IsReading, stored_as}
-use Rattle.zio_stages.specs.OwnParts.{HandsTo, HearsValue}
+use Rattle.zio_stages.specs.OwnParts.{HearsValue}
 use Rattle.zio_stages.specs.PartOwns.{WrittenPart, part_task}
 use Rattle.zio_stages.specs.PartWorks.{Front, IsPartAt, IsPartOver}
-use Rattle.zio_stages.specs.declared.part_node.Allocated.{Allocated}
-use Rattle.zio_stages.specs.declared.part_node.Allocated.TheVariants.{Member, Placed}
 use Rattle.zio_stages.specs.declared.part_node.PartNode.{PartNode}
 
 -- nothing stands in front of the part
@@ -38,25 +35,9 @@ IsPartNodeOver tops node = IsPartOver tops node.work node.family
 abbrev pub IsFreshPart : Terms → PartNode → Task → Type 0
 IsFreshPart t node op = IsPartNode t node (fresh_stack op)
 
--- the next member, if there is one, was handed out
-abbrev pub HandsMemberOf : Terms → Option PartNode → (Stack → Type 0) → Stack → Type 0
-HandsMemberOf t None IsAfter st = IsAfter st
-HandsMemberOf t (Some child) IsAfter st = HandsTo t Gang (IsFreshPart t child) IsAfter st
-
--- the member is handed out, or all are
-abbrev pub AllocatesThen : Terms → Allocated → (Stack → Type 0) → Stack → Type 0
-AllocatesThen t (Member child) IsAfter st = HandsTo t Gang (IsFreshPart t child) IsAfter st
-AllocatesThen t Placed IsAfter st = IsAfter st
-
--- the member that is handed out, if there is one
-abbrev pub member_in : Allocated → Option PartNode
-member_in (Member child) = Some child
-member_in Placed = None
-
--- the part's members with that one
-abbrev pub with_member : Option PartNode → List MemberNow → List MemberNow
-with_member None members = members
-with_member (Some child) members = members ++ MemberOut ∷ []
+-- the part's members with one more, which is out
+abbrev pub with_member : List MemberNow → List MemberNow
+with_member members = members ++ MemberOut ∷ []
 
 -- nothing is done of a member of this part, which is one level below, and the part has three at most
 pub record IsMemberUnder (x : PartWriting) (child : PartNode) : Type 0 where
@@ -65,16 +46,6 @@ pub record IsMemberUnder (x : PartWriting) (child : PartNode) : Type 0 where
   pub few : length x.members ≤ 3
   pub begun : child.work.own.part.members ≡ []
   pub none : child.work.io ≡ None
-
--- the fields of a member that is handed out owe nothing more, whatever the tops
-abbrev pub IsAllocatedOver : Allocated → Type 0
-IsAllocatedOver (Member child) = (tops : List Top) → IsPartNodeOver tops child
-IsAllocatedOver Placed = Unit {0}
-
--- the same, or what was done before memory was refused
-abbrev pub ComesTo : {E : Type 0} → Terms → Result Allocated E → (Stack → Type 0) → Stack → Type 0
-ComesTo t (Ok allocated) IsAfter st = AllocatesThen t allocated IsAfter st
-ComesTo t (Err e) IsAfter st = IsAfter st
 
 -- ---- what it hears
 

@@ -106,6 +106,11 @@ asks_left (Whole places) = 0
 asks_left (Gang places) = 0
 asks_left Nowhere = 0
 
+-- a member is to be handed out
+abbrev pub IsMemberNext : PartStep → Type 0
+IsMemberNext (MemberStep n) = Unit {0}
+IsMemberNext _ = ⊥
+
 -- all its places were asked for, and all its members handed out
 abbrev pub IsPlaced : PartStep → Type 0
 IsPlaced AskBody = ⊥

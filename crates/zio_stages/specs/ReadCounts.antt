@@ -38,6 +38,10 @@ HasWalkBegun w = HasBegun w.tree.read.phase
 abbrev pub HasHandedAll : OwnRead → Type 0
 HasHandedAll w = AreHandedOut w.tree.read.phase w.tree.read.bodies w.tree.read.results
 
+-- its walk over the headers is due
+abbrev pub IsWalkDue : OwnRead → Type 0
+IsWalkDue w = w.tree.read.phase ≡ Unread
+
 -- nothing of it is asked
 pub record IsUnread (w : OwnRead) : Type 0 where
   pub alone : w.body ≡ None

@@ -1,5 +1,5 @@
 -- How much a write in an attempt asked for its block: operations on leaves, and members.
-use Rattle.std.specs.Prelude.{◌≡◌, ℕ, List, [], length, Bool, false, Some}
+use Rattle.std.specs.Prelude.{◌≡◌, ℕ, List, [], length, Bool, false}
 use Rattle.zio_types.specs.declared.place.Top.{Top}
 use Rattle.zio_parts.specs.declared.members.Member.{Member}
 use Rattle.zio_stages.specs.PartNodes.{IsMemberUnder, with_member}
@@ -65,8 +65,8 @@ pub record AsksTheSame (a b : Own) : Type 0 where
   pub many : length (members_of b) ≡ length (members_of a)
   pub path : path_of b ≡ path_of a
 
--- the second handed out this member, and is a member more
+-- the second handed out this member, and has a member more
 pub record HasNextMember (child : PartNode) (a b : Own) : Type 0 where
-  pub members : members_of b ≡ with_member (Some child) (members_of a)
+  pub members : members_of b ≡ with_member (members_of a)
   pub path : path_of b ≡ path_of a
   pub under : IsWriteWith (λ (w : OwnWrite). IsMemberUnder w.work.own.part child) b

@@ -1,23 +1,20 @@
 -- A read in an attempt: which stage it may be in, and what each comes to.
-use Rattle.std.specs.Prelude.{◌≡◌, ℕ, List, length, Bool, false, Option, Some, None, IfSome}
+use Rattle.std.specs.Prelude.{◌≡◌, ◌^◌, ◌<◌, ℕ, List, length, slice_get, Bool, false, Option, Some, None, IfSome}
 use Rattle.zio_types.specs.declared.error.Errno.{Errno}
 use Rattle.zio_types.specs.declared.place.Top.{Top}
 use Rattle.zio_types.specs.declared.request.ChildKind.TheVariants.{Gang}
-use Rattle.zio_types.specs.declared.request.Phase.TheVariants.{Done}
 use Rattle.zio_script.specs.declared.script.Work.{Work}
 use Rattle.zio_script.specs.declared.script.Work.TheVariants.{Null as NullWork, Read as ReadWork, Write as WriteWork, Free as FreeWork, Claim as ClaimWork}
 use Rattle.zio_gang.specs.Attempts.{Terms}
 use Rattle.zio_gang.specs.Trees.{header_levels_max}
 use Rattle.zio_frames.specs.Frames.{Stack, fresh_stack}
-use Rattle.zio_frames.specs.Seats.{IsSeated}
 use Rattle.zio_parts.specs.TreeReads.{ShowsRead}
-use Rattle.zio_parts.specs.declared.tree_read.TreeStep.TheVariants.{End}
-use Rattle.zio_stages.specs.CopiesNodes.{IsCopiesNode, IsCopiesOver}
+use Rattle.zio_parts.specs.declared.tree_read.BodyRead.{BodyRead}
+use Rattle.zio_parts.specs.declared.tree_read.TreeStep.TheVariants.{Body, End}
 use Rattle.zio_stages.specs.HeadsNodes.{IsHeadsNode, IsHeadsOver}
 use Rattle.zio_stages.specs.NodeIos.{IsReadDue}
-use Rattle.zio_stages.specs.OwnParts.{HandsTo, IsOwed}
+use Rattle.zio_stages.specs.OwnParts.{HandsTo}
 use Rattle.zio_stages.specs.OwnReads.{IsBeside, IsBodyOut, IsWalkOut}
-use Rattle.zio_stages.specs.ReadCounts.{HandsOutBody}
 use Rattle.zio_stages.specs.ReadIos.{has_failed}
 use Rattle.zio_stages.specs.declared.heads_node.HeadsNode.{HeadsNode}
 use Rattle.zio_stages.specs.declared.own_read.BodyIo.{BodyIo}
@@ -25,8 +22,6 @@ use Rattle.zio_stages.specs.declared.own_read.OwnRead.{OwnRead}
 use Rattle.zio_stages.specs.declared.request_node.Own.{Own}
 use Rattle.zio_stages.specs.declared.request_node.Own.TheVariants.{Claim, Due, Found, Free, Over, Read, Stored, Write}
 use Rattle.zio_stages.specs.declared.request_node.OwnFound.{OwnFound}
-use Rattle.zio_stages.specs.declared.request_read.BodyStage.{BodyStage}
-use Rattle.zio_stages.specs.declared.request_read.BodyStage.TheVariants.{Body, On, Wait}
 
 -- ---- its stages
 
@@ -96,6 +91,12 @@ IsBodyBeside n w = IsBodyOut w.tree n × IsBeside n w.body
 abbrev pub IsBodyDue : List Top → OwnRead → Type 0
 IsBodyDue tops w = IfSome w.body (λ (b : BodyIo). IsReadDue tops b.io)
 
+-- this body is to be handed out next
+pub record IsBodyNext (body : BodyRead) (w : OwnRead) : Type 0 where
+  pub shows : ShowsRead w.tree.read (Body body)
+  pub is : slice_get w.tree.read.bodies body.n ≡ Some body.bp
+  pub small : body.n < 2 ^ 63
+
 -- all of it ended
 abbrev pub HasReadEnded : OwnRead → Type 0
 HasReadEnded w = ShowsRead w.tree.read End × IsAlone w
@@ -138,20 +139,3 @@ HandsWalk t (Some child) IsAfter st = HandsTo t Gang (λ op. IsHeadsNode t child
 
 abbrev pub IsWalkOver : List Top → Option HeadsNode → Type 0
 IsWalkOver tops child = IfSome child (IsHeadsOver tops)
-
--- the next body was handed out, or a gang child is waited for, or there is none to be handed out
-abbrev pub HandsBody : Terms → BodyStage → (Stack → Type 0) → Stack → Type 0
-HandsBody t (Body child) IsAfter st = HandsTo t Gang (λ op. IsCopiesNode t child (fresh_stack op)) IsAfter st
-HandsBody t Wait IsAfter st = IsAfter st × (IsSeated st → IsOwed Gang Done st)
-HandsBody t On IsAfter st = IsAfter st
-
--- what that changes of the read
-abbrev pub IssuesBody : BodyStage → Own → Own → Type 0
-IssuesBody (Body child) own now = ReadsOn HandsOutBody own now
-IssuesBody Wait own now = now ≡ own
-IssuesBody On own now = now ≡ own
-
-abbrev pub IsBodyStageOver : List Top → BodyStage → Type 0
-IsBodyStageOver tops (Body child) = IsCopiesOver tops child
-IsBodyStageOver tops Wait = Unit {0}
-IsBodyStageOver tops On = Unit {0}

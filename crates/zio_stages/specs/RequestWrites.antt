@@ -5,7 +5,7 @@ use Rattle.zio_parts.specs.PartWrites.{is_ready, step_of}
 use Rattle.zio_parts.specs.declared.parts.PartStep.TheVariants.{End}
 use Rattle.zio_stages.specs.PartOwns.{ShowsOwn}
 use Rattle.zio_stages.specs.NodeIos.{IsWriteDue}
-use Rattle.zio_stages.specs.PartWorks.{IsIssued, IsPlaced, IsWritten}
+use Rattle.zio_stages.specs.PartWorks.{IsIssued, IsMemberNext, IsPlaced, IsWritten, asks_left}
 use Rattle.zio_stages.specs.declared.own_write.OwnWrite.{OwnWrite}
 use Rattle.zio_stages.specs.declared.request_node.Own.{Own}
 use Rattle.zio_stages.specs.declared.request_node.Own.TheVariants.{Claim, Due, Found, Free, Over, Read, Stored, Write}
@@ -29,6 +29,14 @@ IsWrite own = IsWriteWith (λ (w : OwnWrite). Unit {0}) own
 -- its places were asked for, its members handed out, and its own copies not begun
 abbrev pub IsPlacedWrite : Own → Type 0
 IsPlacedWrite own = IsWriteWith (λ (w : OwnWrite). IsPlaced (step_of w.work.own.part) × (w.work.io ≡ None)) own
+
+-- no places are to be asked for any more
+abbrev pub HasAsked : Own → Type 0
+HasAsked own = IsWriteWith (λ (w : OwnWrite). asks_left w.work.own.part.placing ≡ 0) own
+
+-- a member is to be handed out
+abbrev pub IsMemberDue : Own → Type 0
+IsMemberDue own = IsWriteWith (λ (w : OwnWrite). IsMemberNext (step_of w.work.own.part)) own
 
 -- its own copies are written, or it has no place
 abbrev pub IsWrittenWrite : Own → Type 0

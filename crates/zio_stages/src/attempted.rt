@@ -9,16 +9,13 @@ ghost use Rattle.zio_trace.specs.Tasks.{AttemptedBy, One, Task};
 ghost use Rattle.zio_children.specs.RequestKids.{Fits, IsLeftBy, IsOutWith, RiseFrom, ShowsKids, finished_in, fresh_kids, is_ended, kid_handed, kid_is, kids_by, numbers_of, state_at};
 ghost use Rattle.zio_children.specs.declared.kids.KidState.TheVariants.{Ended, Out, Told};
 ghost use Rattle.zio_frames.specs.Slots.{Heard, IsOut, Slot};
-ghost use Rattle.zio_exchange.specs.Wholes.{IsForestOf, IsLeft, IsTreeOf, joined, root_number, root_of, roots_in};
+ghost use Rattle.zio_exchange.specs.Wholes.{IsLeft, IsTreeOf, root_number, root_of, roots_in};
 ghost use Rattle.zio_exchange.specs.Waits.{pending_of};
 ghost use Rattle.zio_stages.specs.KidLists.{AreBegun, HoldTheSame, HoldsBut, IsLeftList, IsListOf};
 ghost use Rattle.zio_stages.specs.KidPointers.{HasValid, HaveValidPointers};
 ghost use Rattle.zio_stages.specs.KidTrees.{HandsOut, IsKids, trees_left, with_kept};
-ghost use Rattle.zio_stages.specs.Splits.{AreSoMany};
 
-use crate::again::{begin_again, grown_again};
 use crate::request_name::request_label;
-use crate::split::{rejoin, split};
 use std::alloc::Global;
 use std::marker::Model;
 use std::mem::replace;
@@ -51,8 +48,7 @@ impl Model for RequestKids {
 }
 
 impl RequestKids {
-    /// Splits a tree into its request and its children's trees. It goes over the tree once. Where memory is refused the
-    /// tree comes back.
+    /// Takes a tree apart into its request and its children's trees. Where memory is refused the tree comes back.
     pub fn begin(alloc: Global, whole: Whole) -> Result<(UnfinishedRequest, RequestKids), WholeBack>
         ensures root { IfOk result (λ begun. root_of whole ≡ Some begun.0) }
         ensures kids { IfOk result (λ begun. (attempt : ℕ) (p : Pending) (forest : Forest) → IsTreeOf whole p forest →
@@ -63,19 +59,17 @@ impl RequestKids {
         ensures begun { IfOk result (λ begun. AreBegun begun.0 begun.1) }
         ensures back { IfErr result (λ e. e.whole ≡ whole) }
     {
-        let mut rest = whole.waiting.into_vec();
-        let root = match rest.pop() {
-            Some(root) => root,
-            None => unreachable!(),
-        };
-        match kids_of(alloc, &root, &mut rest) {
-            Ok(kids) => Ok((root, kids)),
+        let (root, mut due) = whole.into_parts();
+        due.reverse();
+        match due_kids(alloc, root.kept.as_slice(), &due) {
+            Ok((kids, again)) => {
+                let kids = RequestKids { kids, due, again };
+                Ok((Box::into_inner(root), kids))
+            }
             Err(NoMemory) => {
-                rest.push_reserved(root);
+                due.reverse();
                 Err(WholeBack {
-                    whole: Whole {
-                        waiting: List::from_vec(rest),
-                    },
+                    whole: Whole::grown(root, due),
                 })
             }
         }
@@ -167,7 +161,8 @@ impl RequestKids {
             IsLeftBy one number bits None pointer → IsLeft whole one →
             IsKids self.new attempt forest asked (slice_set slots n (Heard (AttemptedBy one))) }
     {
-        let _ = &whole.waiting;
+        // It is a whole tree.
+        let _root = whole.root();
         self.kids.hear(n, bits, None, pointer);
         self.again[n] = Some(whole);
     }
@@ -191,13 +186,36 @@ impl RequestKids {
         ensures same { OnErr result (self.new ≡ self.old) }
         ensures waiting { OnErr result (waiting.new ≡ waiting.old) }
     {
-        let (all, kept) = begin_again(alloc, &self.kids, &self.again)?;
+        let mut left = Vec::with_capacity(alloc, self.again.len())?;
+        let kept = self.kids.finished(alloc)?;
+        let mut root = request_room(alloc)?;
         self.kids = Kids::new(alloc, &[], List::new(alloc))?;
         self.due = Vec::new(alloc);
-        let again = replace(&mut self.again, Vec::new(alloc));
-        let mut root = replace(waiting, no_request(alloc));
+        put_left(&mut left, replace(&mut self.again, Vec::new(alloc)));
+        *root = replace(waiting, no_request(alloc));
         root.kept = kept;
-        Ok(grown_again(all, again, root))
+        Ok(Whole::grown(root, left))
+    }
+}
+
+/// A place for the request of a tree that goes again, made before anything goes over.
+fn request_room(alloc: Global) -> Result<Box<UnfinishedRequest>, NoMemory> {
+    match Box::new(alloc, no_request(alloc)) {
+        Ok(room) => Ok(room),
+        Err(_) => Err(NoMemory),
+    }
+}
+
+/// Moves what is left of the children to where there is room for it.
+fn put_left(left: &mut Vec<Whole>, again: Vec<Option<Whole>>)
+    requires none { left.old.items ≡ [] }
+    requires room { length again.items ≤ vec_capacity left.old }
+    ensures { left.new.items ≡ trees_left again.items }
+{
+    for child in List::from_vec(again).into_rest() {
+        if let Some(tree) = child {
+            left.push_reserved(tree);
+        }
     }
 }
 
@@ -214,35 +232,7 @@ fn no_request(alloc: Global) -> UnfinishedRequest {
         block: None,
         kept: List::new(alloc),
         unfinished: 0,
-        below: 0,
     }
-}
-
-/// The children's trees, of which the list is made. Where memory is refused the list is as before.
-fn kids_of(
-    alloc: Global,
-    root: &UnfinishedRequest,
-    rest: &mut Vec<UnfinishedRequest>,
-) -> Result<RequestKids, NoMemory>
-    requires { AreSoMany rest.old.items root.now.unfinished }
-    ensures kids { IfOk result (λ kids. (attempt : ℕ) (forest : Forest) → IsForestOf rest.old.items forest →
-        IsKids kids attempt forest [] []) }
-    ensures kept { IfOk result (λ kids. kids.kids.kept ≡ root.now.kept) }
-    ensures valid { IfOk result (λ kids. AllByRecursion HasValid root.now.kept → HaveValidPointers kids.kids) }
-    ensures list { IfOk result (λ kids. joined kids.due ≡ rest.old.items) }
-    ensures none { IfOk result (λ kids. trees_left kids.again ≡ []) }
-    ensures begun { IfOk result (λ kids. AreBegun root.now kids) }
-    ensures err { OnErr result (rest.new.items ≡ rest.old.items) }
-    ensures capacity { OnErr result (vec_capacity rest.old ≤ vec_capacity rest.new) }
-{
-    let mut due = Vec::with_capacity(alloc, root.unfinished)?;
-    if split(rest, root.unfinished, &mut due).is_ok() {
-        if let Ok((kids, again)) = due_kids(alloc, root.kept.as_slice(), &due) {
-            return Ok(RequestKids { kids, due, again });
-        }
-    }
-    rejoin(rest, due);
-    Err(NoMemory)
 }
 
 /// The children whose trees these are, the last first, beside those that finished; nothing is left of any.

@@ -98,6 +98,7 @@ impl CopiesNode {
         ensures count { IfOk result (λ leaf. self.new.io.asked ≡ with_one leaf self.old.io.asked) }
         ensures pass { self.new.io.read.retry ≡ self.old.io.read.retry }
         ensures none { result ≡ Ok None → IsReadStep tops.now self.new.io IoStep.Child → ⊥ }
+        ensures same { result ≡ Ok None → self.new.io ≡ self.old.io }
         ensures over { IsCopiesOver tops.now self.new }
         ensures err { OnErr result (self.new ≡ self.old) }
     {

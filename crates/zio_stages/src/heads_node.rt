@@ -3,10 +3,11 @@
 //! A header is read by a child, and each member that it names is walked by another, which does the same one level down.
 //! So the headers of a level are read beside each other, and no node keeps more than its own.
 
-ghost use Rattle.std.specs.Prelude.{◌≡◌, ◌+◌, ◌<◌, ◌≤◌, IfOk, IsTrue, List as Seq, Ok, OnErr, OnOk, Option, Some, false, length, slice_get};
+ghost use Rattle.std.specs.Prelude.{◌≡◌, ◌+◌, ◌<◌, ◌≤◌, IfOk, IsTrue, List as Seq, OnErr, OnOk, Option, Some, false, length, slice_get};
 ghost use Rattle.std.specs.List.{AllByRecursion};
 ghost use Rattle.zio_types.specs.declared.place.Top.{Top as SeenTop};
 ghost use Rattle.zio_types.specs.declared.request.ChildKind.TheVariants.{Gang};
+ghost use Rattle.zio_types.specs.declared.request.Phase.TheVariants.{Done};
 ghost use Rattle.zio_blkptr.specs.declared.pointer.Bp.{Bp as SeenBp};
 ghost use Rattle.zio_blkptr.specs.Pointers.{places_of, valid};
 ghost use Rattle.zio_gang.specs.Attempts.{Terms};
@@ -24,19 +25,14 @@ ghost use Rattle.zio_stages.specs.HeadsNodes.{
   HearsSomeBelow,
   HearsSomeHead,
   HearsSomeUntold,
-  IsFewWith,
   IsHeadOn,
   IsHeadsNode,
   IsHeadsOver,
-  IsLevelBelow,
-  IsStageOver,
-  IsWalkStage,
   LiesOn,
   walk_kids_max,
-  with_kid,
 };
 ghost use Rattle.zio_stages.specs.HeadsWorks.{pointer_in, read_task};
-ghost use Rattle.zio_stages.specs.OwnParts.{HandsTo};
+ghost use Rattle.zio_stages.specs.OwnParts.{HandsTo, IsOwed};
 ghost use Rattle.zio_stages.specs.Tops.{AreTops};
 ghost use Rattle.zio_stages.specs.WriteIos.{AreIoPlaces};
 
@@ -63,19 +59,6 @@ pub struct HeadsNode {
     name: Named,
     /// The class of the headers' reads.
     prio: Prio,
-}
-
-/// What comes next of a walk.
-#[derive(Drop)]
-pub enum WalkStage {
-    /// This child reads its header.
-    Head(CopiesNode),
-    /// This child walks below a member.
-    Below(HeadsNode),
-    /// A gang child has to end first.
-    Wait,
-    /// The walk has ended.
-    On,
 }
 
 impl HeadsNode {
@@ -155,39 +138,17 @@ impl HeadsNode {
         &self.family
     }
 
-    /// Hands the read of the header, or the walk below the next member, to a child. Where memory is refused the node is
-    /// as before.
-    pub fn gang_assemble(&mut self, alloc: Global, tops: &[Top]) -> Result<WalkStage, NoMemory>
-        requires { IsHeadsOver tops.now self.old }
-        ensures stage { IfOk result (λ stage. (t : Terms) (st : Stack) → t.setting.tops ≡ tops.now →
-            IsHeadsNode t self.old st →
-            IsWalkStage t self.new st stage) }
-        ensures wait { result ≡ Ok WalkStage.Wait → self.new ≡ self.old }
-        ensures on { result ≡ Ok WalkStage.On → (self.new ≡ self.old) × ShowsWalk self.new.work.walk WalkStep.End }
-        ensures over { IsHeadsOver tops.now self.new }
-        ensures child_over { IfOk result (IsStageOver tops.now) }
-        ensures count { IfOk result (λ stage. length self.new.family ≡ with_kid stage (length self.old.family)) }
-        ensures few { IfOk result (λ stage. IsFewWith stage (length self.new.family)) }
-        ensures levels { self.new.work.walk.levels ≡ self.old.work.walk.levels }
-        ensures below { IfOk result (IsLevelBelow self.old.work.walk.levels) }
-        ensures err { OnErr result (self.new ≡ self.old) }
+    /// What comes next of the walk.
+    pub fn next(&self) -> WalkStep
+        ensures shows { ShowsWalk self.now.work.walk result }
+        ensures waits { result ≡ WalkStep.Wait → (t : Terms) (st : Stack) → IsSeated st → IsHeadsNode t self.now st →
+            IsOwed Gang Done st }
     {
-        match self.work.next() {
-            WalkStep::ReadHead => {
-                let child = self.hand_out_head(alloc, tops)?;
-                Ok(WalkStage::Head(child))
-            }
-            WalkStep::Member(member) => {
-                let child = self.hand_out_below(alloc, tops, member)?;
-                Ok(WalkStage::Below(child))
-            }
-            WalkStep::Wait => Ok(WalkStage::Wait),
-            WalkStep::End => Ok(WalkStage::On),
-        }
+        self.work.next()
     }
 
-    /// Hands the read of the header to a child. Where memory is refused the node is as before.
-    fn hand_out_head(&mut self, alloc: Global, tops: &[Top]) -> Result<CopiesNode, NoMemory>
+    /// Hands the read of the header, which is next, to a child. Where memory is refused the node is as before.
+    pub fn hand_out_head(&mut self, alloc: Global, tops: &[Top]) -> Result<CopiesNode, NoMemory>
         requires over { IsHeadsOver tops.now self.old }
         requires step { ShowsWalk self.old.work.walk WalkStep.ReadHead }
         ensures hands { IfOk result (λ child. (t : Terms) (st : Stack) → t.setting.tops ≡ tops.now →
@@ -209,8 +170,8 @@ impl HeadsNode {
         Ok(reading(alloc, tops, read, places, self.prio, name))
     }
 
-    /// Hands the walk below a member to a child. Where memory is refused the node is as before.
-    fn hand_out_below(
+    /// Hands the walk below a member, which is next, to a child. Where memory is refused the node is as before.
+    pub fn hand_out_below(
         &mut self,
         alloc: Global,
         tops: &[Top],

@@ -1,7 +1,6 @@
 //! The pipeline: a node of a request goes from stage to stage, waits for its children, and ends.
 #![tactic(auto)]
 
-mod again;
 mod at_once;
 mod attempted;
 mod check;
@@ -44,7 +43,6 @@ mod request_read;
 mod request_read_heard;
 mod request_stored;
 mod request_write;
-mod split;
 mod stored_block;
 mod tree;
 mod write_io;
@@ -56,7 +54,7 @@ pub use closing::{Finished, Outcome, Seal};
 pub use copies_node::CopiesNode;
 pub use family::{Family, Layer, Seat};
 pub use heads::{HeadRead, HeadsWork};
-pub use heads_node::{HeadsNode, WalkStage};
+pub use heads_node::HeadsNode;
 pub use io_laws::reads_and_writes_of_copies_ask_leaves;
 pub use kid_laws::{logical_children_are_attempts, other_children_show_own_work};
 pub use leaf::LeafWork;
@@ -67,7 +65,7 @@ pub use own_laws::{
     own_work_stays_while_children_go_on, what_is_no_write_has_no_pointer,
 };
 pub use part::PartOwn;
-pub use part_node::{Allocated, PartNode};
+pub use part_node::PartNode;
 pub use pointer_laws::reads_tell_no_pointer;
 pub use read_io::ReadIo;
 pub use request_name::request_label;

@@ -67,6 +67,7 @@ pub(crate) fn start_read(
     ensures count { length family.new + io.old.asked ≡ length family.old + io.new.asked }
     ensures pass { io.new.read.retry ≡ io.old.read.retry }
     ensures none { result ≡ Ok None → IsReadStep tops.now io.new IoStep.Child → ⊥ }
+    ensures same { result ≡ Ok None → io.new ≡ io.old }
     ensures io_err { OnErr result (io.new ≡ io.old) }
     ensures family_err { OnErr result (family.new ≡ family.old) }
 {

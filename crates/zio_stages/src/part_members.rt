@@ -1,6 +1,6 @@
 // The members of a part that is written as a gang, the pointer that it tells, and its end.
 
-ghost use Rattle.std.specs.Prelude.{◌≡◌, ◌+◌, ◌^◌, ◌<◌, ℕ, IfOk, IfSome, IsTrue, List as Seq, None, OnErr, Ok, Option, Some, length, slice_get, true};
+ghost use Rattle.std.specs.Prelude.{◌≡◌, ◌+◌, ◌^◌, ◌<◌, ℕ, IfOk, IfSome, IsTrue, List as Seq, None, OnErr, OnOk, Option, Some, false, length, slice_get, true};
 ghost use Rattle.zio_types.specs.declared.place.Top.{Top as SeenTop};
 ghost use Rattle.zio_types.specs.declared.request.ChildKind.TheVariants.{Gang};
 ghost use Rattle.zio_types.specs.declared.request.Phase.TheVariants.{Done, Ready};
@@ -18,15 +18,15 @@ ghost use Rattle.zio_parts.specs.Parts.{stored_by};
 ghost use Rattle.zio_parts.specs.PartWrites.{is_due, is_ready, step_of};
 ghost use Rattle.zio_exchange.specs.Outcomes.{IsKept, stored_as};
 ghost use Rattle.zio_exchange.specs.SpaceCalls.{AreAsks, SpaceCall};
-ghost use Rattle.zio_stages.specs.OwnParts.{DoesThen, IsOwed};
-ghost use Rattle.zio_stages.specs.PartNodes.{ComesTo, HandsMemberOf, IsAllocatedOver, IsMemberUnder, IsPartNodeOver, member_in, with_member};
+ghost use Rattle.zio_stages.specs.OwnParts.{DoesThen, HandsTo, IsOwed};
+ghost use Rattle.zio_stages.specs.PartNodes.{IsFreshPart, IsMemberUnder, IsPartNodeOver, with_member};
 ghost use Rattle.zio_stages.specs.PartOwns.{IsPartOwn, ShowsOwn, WrittenPart, part_plan};
-ghost use Rattle.zio_stages.specs.PartWorks.{Front, HaveUnits, IsFront, IsMemberAt, IsNoLessFar, IsPartAt, IsPartOver, IsPlaced, IsToldAs, IsWritten, asks_left};
+ghost use Rattle.zio_stages.specs.PartWorks.{Front, HaveUnits, IsFront, IsMemberAt, IsMemberNext, IsNoLessFar, IsPartAt, IsPartOver, IsPlaced, IsToldAs, IsWritten, asks_left};
 ghost use Rattle.zio_stages.specs.Tops.{AreTops};
 
 use crate::family::{Family, Seat};
 use crate::named::Named;
-use crate::part_node::{Allocated, PartNode};
+use crate::part_node::PartNode;
 use crate::part_work::PartWork;
 use crate::request_node::{DoneStep, ReadyStep};
 use std::alloc::Global;
@@ -36,76 +36,69 @@ use zio_parts::{PartStep, StoredPart};
 use zio_types::{ChildKind, NoMemory};
 
 impl PartWork {
-    /// Asks the space for the part's places, for a header's where these are refused, and hands out the gang's next
-    /// member. Where memory is refused what was done before stays.
+    /// Asks the space for the part's places, and for a header's where these are refused. Where memory is refused what
+    /// was done before stays.
     pub(crate) fn dva_allocate<S: Services>(
         &mut self,
         alloc: Global,
         services: &mut S,
-        family: &mut Family,
-        name: &Named,
-        front: usize,
-    ) -> Result<Allocated, NoMemory>
-        requires over { IsPartOver (S.tops services.old) self.old family.old }
+    ) -> Result<(), NoMemory>
         requires tops { AreTops (S.tops services.old) }
         requires units { HaveUnits (S.tops services.old) }
-        requires front { front < 2 ^ 63 }
         ensures does { (calls : Seq SpaceCall) × S.made services.old calls services.new
-            × ((t : Terms) (f : Front) (o : WrittenPart) (st : Stack) →
-            IsFront t f o front → IsPartAt t self.old family.old f o st
-            → DoesThen t st calls (ComesTo t result (IsPartAt t self.new family.new f o))) × AreAsks calls }
-        ensures over { IsPartOver (S.tops services.old) self.new family.new }
+            × ((t : Terms) (f : Front) (o : WrittenPart) (front : ℕ) (family : Seq Child) (st : Stack) →
+            IsFront t f o front → IsPartAt t self.old family f o st →
+            IsPartOver (S.tops services.old) self.old family → DoesThen t st calls (IsPartAt t self.new family f o))
+            × AreAsks calls }
+        ensures over { (family : Seq Child) → IsPartOver (S.tops services.old) self.old family
+            → IsPartOver (S.tops services.old) self.new family }
         ensures tops { S.tops services.new ≡ S.tops services.old }
         ensures io { self.new.io ≡ self.old.io }
-        ensures child { IfOk result IsAllocatedOver }
-        ensures placed { result ≡ Ok Allocated.Placed → IsPlaced (step_of self.new.own.part) }
-        ensures members { IfOk result (λ allocated.
-            self.new.own.part.members ≡ with_member (member_in allocated) self.old.own.part.members) }
-        ensures next { IfOk result (λ allocated. IfSome (member_in allocated) (IsMemberUnder self.new.own.part)) }
+        ensures left { OnOk result (asks_left self.new.own.part.placing ≡ 0) }
+        ensures members { self.new.own.part.members ≡ self.old.own.part.members }
         ensures path { self.new.own.part.path ≡ self.old.own.part.path }
     {
         let Ok(()) = self.place(alloc, services) else {
             return Err(NoMemory);
         };
-        let Ok(()) = self.place(alloc, services) else {
-            return Err(NoMemory);
-        };
-        match self.member(alloc, family, name, front) {
-            Ok(Some(child)) => Ok(Allocated::Member(child)),
-            Ok(None) => Ok(Allocated::Placed),
-            Err(NoMemory) => Err(NoMemory),
-        }
+        self.place(alloc, services)
     }
 
-    /// The gang's next member, whose child was added, which holds its own bytes too; none where none is due. Where
-    /// memory is refused all is as before.
+    /// Whether a member is to be handed out.
+    pub(crate) fn is_member_due(&self) -> bool
+        ensures due { result ≡ true → IsMemberNext (step_of self.now.own.part) }
+        ensures none { result ≡ false → asks_left self.now.own.part.placing ≡ 0 → IsPlaced (step_of self.now.own.part) }
+    {
+        matches!(self.own.next(), PartStep::Member(_))
+    }
+
+    /// The gang's next member, which is due, and whose child was added; it holds its own bytes too. Where memory is
+    /// refused all is as before.
     pub(crate) fn member(
         &mut self,
         alloc: Global,
         family: &mut Family,
         name: &Named,
         front: usize,
-    ) -> Result<Option<PartNode>, NoMemory>
+    ) -> Result<PartNode, NoMemory>
         requires over { (tops : Seq SeenTop) × IsPartOver tops self.old family.old }
+        requires due { IsMemberNext (step_of self.old.own.part) }
         requires front { front < 2 ^ 63 }
         ensures hands { IfOk result (λ child. (t : Terms) (f : Front) (o : WrittenPart) (st : Stack) →
-            IsFront t f o front →
-            IsPartAt t self.old family.old f o st → HandsMemberOf t child (IsPartAt t self.new family.new f o) st) }
+            IsFront t f o front → IsPartAt t self.old family.old f o st →
+            HandsTo t Gang (IsFreshPart t child) (IsPartAt t self.new family.new f o) st) }
         ensures over { (tops : Seq SeenTop) → IsPartOver tops self.old family.old
             → IsPartOver tops self.new family.new }
-        ensures child { IfOk result (λ child. IfSome child (λ node. (tops : Seq SeenTop) → IsPartNodeOver tops node)) }
+        ensures child { IfOk result (λ child. (tops : Seq SeenTop) → IsPartNodeOver tops child) }
         ensures io { self.new.io ≡ self.old.io }
-        ensures placed { result ≡ Ok None → asks_left self.old.own.part.placing ≡ 0
-            → IsPlaced (step_of self.new.own.part) }
-        ensures members { IfOk result (λ child. self.new.own.part.members
-            ≡ with_member child self.old.own.part.members) }
-        ensures next { IfOk result (λ child. IfSome child (IsMemberUnder self.new.own.part)) }
+        ensures members { OnOk result (self.new.own.part.members ≡ with_member self.old.own.part.members) }
+        ensures next { IfOk result (IsMemberUnder self.new.own.part) }
         ensures path { self.new.own.part.path ≡ self.old.own.part.path }
         ensures self_err { OnErr result (self.new ≡ self.old) }
         ensures family_err { OnErr result (family.new ≡ family.old) }
     {
         let PartStep::Member(n) = self.own.next() else {
-            return Ok(None);
+            unreachable!()
         };
         let range = self.own.member_range(n);
         let bytes = self
@@ -115,7 +108,7 @@ impl PartWork {
         let seat = Seat::Outer(front + 2 + n);
         family.add(ChildKind::Gang, seat, name.label(0))?;
         let own = self.own.hand_out_member(n, self.bytes.as_slice());
-        Ok(Some(PartNode::of(alloc, own, bytes, self.prio, name)))
+        Ok(PartNode::of(alloc, own, bytes, self.prio, name))
     }
 
     /// Whether it can tell its pointer, once its members were handed out.

@@ -2,7 +2,7 @@
 
 ghost use Rattle.std.specs.Prelude.{◌≡◌, ◌∷◌, ◌*◌, ◌%◌, ◌+◌, ◌-◌, ◌^◌, ◌<◌, ◌≤◌, IfOk, IfSome, IsPermutation, IsTrue, List as Seq, None, OnErr, OnOk, Ok, Option, Some, [], false, length, slice_get, true};
 ghost use Rattle.zio_types.specs.declared.place.Top.{Top as SeenTop};
-ghost use Rattle.zio_types.specs.declared.request.ChildKind.TheVariants.{Vdev};
+ghost use Rattle.zio_types.specs.declared.request.ChildKind.TheVariants.{Gang, Vdev};
 ghost use Rattle.zio_types.specs.declared.request.Phase.TheVariants.{Done, Ready};
 ghost use Rattle.zio_blkptr.specs.Pointers.{valid};
 ghost use Rattle.zio_gang.specs.Attempts.{Terms, writing_of};
@@ -20,11 +20,11 @@ ghost use Rattle.zio_exchange.specs.SpaceCalls.{AreAsks, SpaceCall};
 ghost use Rattle.zio_stages.specs.LeafWorks.{IsDue};
 ghost use Rattle.zio_stages.specs.NodeChildren.{first_owing};
 ghost use Rattle.zio_stages.specs.NodeIos.{IsWriteDue, StartsBy, with_one};
-ghost use Rattle.zio_stages.specs.OwnParts.{DoesThen, IsOwed};
+ghost use Rattle.zio_stages.specs.OwnParts.{DoesThen, HandsTo, IsOwed};
 ghost use Rattle.zio_stages.specs.Labels.{part_label};
-ghost use Rattle.zio_stages.specs.PartNodes.{ComesTo, HearsEarlyAt, HearsValueAt, IsAllocatedOver, IsAnsweredBy, IsMemberUnder, IsPartNode, IsPartNodeOver, IsStoredBy, member_in, with_member};
+ghost use Rattle.zio_stages.specs.PartNodes.{HearsEarlyAt, HearsValueAt, IsAnsweredBy, IsFreshPart, IsMemberUnder, IsPartNode, IsPartNodeOver, IsStoredBy, with_member};
 ghost use Rattle.zio_stages.specs.PartOwns.{IsPartOwn, ShowsOwn, WrittenPart, part_task};
-ghost use Rattle.zio_stages.specs.PartWorks.{HaveUnits, IsIssued, IsMoreDue, IsNoLessFar, IsPlaced, IsWritten, asked_by, is_second};
+ghost use Rattle.zio_stages.specs.PartWorks.{HaveUnits, IsIssued, IsMemberNext, IsMoreDue, IsNoLessFar, IsPlaced, IsWritten, asked_by, asks_left, is_second};
 ghost use Rattle.zio_stages.specs.Tops.{AreTops};
 
 use crate::family::Family;
@@ -47,15 +47,6 @@ pub struct PartNode {
     pub(crate) work: PartWork,
     pub(crate) family: Family,
     pub(crate) name: Named,
-}
-
-/// What a stage that asks for places comes to.
-#[derive(Drop)]
-pub enum Allocated {
-    /// The part is a gang, and this is its next member.
-    Member(PartNode),
-    /// Its places were asked for, and its members handed out.
-    Placed,
 }
 
 impl PartNode {
@@ -139,31 +130,53 @@ impl PartNode {
         &self.family
     }
 
-    /// Asks the space for the part's places, for a header's where these are refused, and hands out the gang's next
-    /// member. Where memory is refused what was done before stays.
+    /// Asks the space for the part's places, and for a header's where these are refused. Where memory is refused what
+    /// was done before stays.
     pub fn dva_allocate<S: Services>(
         &mut self,
         alloc: Global,
         services: &mut S,
-    ) -> Result<Allocated, NoMemory>
+    ) -> Result<(), NoMemory>
         requires over { IsPartNodeOver (S.tops services.old) self.old }
         requires tops { AreTops (S.tops services.old) }
         requires units { HaveUnits (S.tops services.old) }
         ensures does { (calls : Seq SpaceCall) × S.made services.old calls services.new ×
             ((t : Terms) (st : Stack) → IsPartNode t self.old st
-            → DoesThen t st calls (ComesTo t result (IsPartNode t self.new))) × AreAsks calls }
+            → DoesThen t st calls (IsPartNode t self.new)) × AreAsks calls }
         ensures over { IsPartNodeOver (S.tops services.old) self.new }
         ensures tops { S.tops services.new ≡ S.tops services.old }
-        ensures child { IfOk result IsAllocatedOver }
-        ensures placed { result ≡ Ok Allocated.Placed → IsPlaced (step_of self.new.work.own.part) }
-        ensures members { IfOk result (λ allocated.
-            self.new.work.own.part.members ≡ with_member (member_in allocated) self.old.work.own.part.members) }
-        ensures next { IfOk result (λ allocated. IfSome (member_in allocated) (IsMemberUnder self.new.work.own.part)) }
+        ensures left { OnOk result (asks_left self.new.work.own.part.placing ≡ 0) }
+        ensures members { self.new.work.own.part.members ≡ self.old.work.own.part.members }
         ensures path { self.new.work.own.part.path ≡ self.old.work.own.part.path }
         ensures io { self.new.work.io ≡ self.old.work.io }
     {
-        self.work
-            .dva_allocate(alloc, services, &mut self.family, &self.name, 0)
+        self.work.dva_allocate(alloc, services)
+    }
+
+    /// Whether it is a gang of which a member is to be handed out.
+    pub fn is_member_due(&self) -> bool
+        ensures due { result ≡ true → IsMemberNext (step_of self.now.work.own.part) }
+        ensures none { result ≡ false → asks_left self.now.work.own.part.placing ≡ 0
+            → IsPlaced (step_of self.now.work.own.part) }
+    {
+        self.work.is_member_due()
+    }
+
+    /// Hands out the gang's next member, which is due. Where memory is refused the node is as before.
+    pub fn next_member(&mut self, alloc: Global) -> Result<PartNode, NoMemory>
+        requires over { (tops : Seq SeenTop) × IsPartNodeOver tops self.old }
+        requires due { IsMemberNext (step_of self.old.work.own.part) }
+        ensures hands { IfOk result (λ child. (t : Terms) (st : Stack) → IsPartNode t self.old st →
+            HandsTo t Gang (IsFreshPart t child) (IsPartNode t self.new) st) }
+        ensures over { (tops : Seq SeenTop) → IsPartNodeOver tops self.old → IsPartNodeOver tops self.new }
+        ensures child { IfOk result (λ child. (tops : Seq SeenTop) → IsPartNodeOver tops child) }
+        ensures members { OnOk result (self.new.work.own.part.members ≡ with_member self.old.work.own.part.members) }
+        ensures next { IfOk result (IsMemberUnder self.new.work.own.part) }
+        ensures path { self.new.work.own.part.path ≡ self.old.work.own.part.path }
+        ensures io { self.new.work.io ≡ self.old.work.io }
+        ensures err { OnErr result (self.new ≡ self.old) }
+    {
+        self.work.member(alloc, &mut self.family, &self.name, 0)
     }
 
     /// Whether it can tell its pointer, once its members were handed out.

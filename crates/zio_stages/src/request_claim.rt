@@ -3,7 +3,7 @@
 //! Once its children were all handed out, the node walks over the headers of the block that its bytes point to. Where
 //! no header failed the block's places are taken, all together or none.
 
-ghost use Rattle.std.specs.Prelude.{◌≡◌, ◌<◌, [], IfOk, IfSome, Ok, List as Seq, None, OnErr, OnOk, Option, Some, false, length, slice_get};
+ghost use Rattle.std.specs.Prelude.{◌≡◌, ◌<◌, [], IfOk, IfSome, Ok, List as Seq, None, OnErr, OnOk, Option, Some, false, length, slice_get, true};
 ghost use Rattle.zio_types.specs.declared.place.Top.{Top as SeenTop};
 ghost use Rattle.zio_types.specs.declared.request.Phase.TheVariants.{Done};
 ghost use Rattle.zio_blkptr.specs.declared.pointer.Bp.{Bp};
@@ -87,6 +87,18 @@ impl RequestNode {
         match &self.own {
             Own::Due => self.claim_init(alloc, tops),
             _ => Ok(()),
+        }
+    }
+
+    /// Whether the walk over a gang's headers is due.
+    pub fn is_walk_due_claim(&self) -> bool
+        ensures due { result ≡ true → IsClaimingWith (λ w. IsWalkDue w.block w.step) self.now.own }
+        ensures none { result ≡ false → IsClaimWith (λ w. Unit {0}) self.now.own →
+            IsClaimWith (λ w. IsPastDue w.block w.step) self.now.own }
+    {
+        match &self.own {
+            Own::Claim(own) => own.due_pointer().is_some(),
+            _ => false,
         }
     }
 

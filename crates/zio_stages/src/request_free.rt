@@ -70,6 +70,21 @@ impl RequestNode {
         Ok(())
     }
 
+    /// Whether the walk over a gang's headers is due.
+    pub fn is_walk_due_free(&self) -> bool
+        ensures due { result ≡ true → IsFreeingWith (λ w. w.walk ≡ SeenWalk.Due) self.now.own }
+        ensures none { result ≡ false → is_gang_tree self.now.waiting.block ≡ true →
+            IsFreeWith (λ w. Unit {0}) self.now.own → IsFreeWith (λ w. HasBegun w.walk) self.now.own }
+    {
+        let Own::Free(own) = &self.own else {
+            return false;
+        };
+        let FreeWalk::Due = own.walk else {
+            return false;
+        };
+        self.waiting.block.is_some()
+    }
+
     /// Hands the walk over a gang's headers to a child, if it is due. Where memory is refused all is as before.
     pub fn gang_assemble_free(&mut self, alloc: Global) -> Result<Option<HeadsNode>, NoMemory>
         requires frees { IsFreeWith (IsFreeing self.old.waiting.block) self.old.own }

@@ -4,7 +4,7 @@
 //! once they all are out, and once each has told the pointer that it will have, or has ended, the request can tell its
 //! own.
 
-ghost use Rattle.std.specs.Prelude.{◌≡◌, ◌<◌, ◌⊎◌, ℕ, List as Seq, [], IfErr, IfOk, None, OnErr, Ok, Option, Some, length, option_map, slice_get, slice_set, true};
+ghost use Rattle.std.specs.Prelude.{◌≡◌, ◌<◌, ◌⊎◌, ℕ, List as Seq, [], IfErr, IfOk, None, OnErr, Ok, Option, Some, false, length, option_map, slice_get, slice_set, true};
 ghost use Rattle.std.specs.List.{AllByRecursion, list_all, list_any};
 ghost use Rattle.zio_types.specs.declared.place.Top.{Top as SeenTop};
 ghost use Rattle.zio_types.specs.declared.request.Phase.TheVariants.{Done};
@@ -316,5 +316,13 @@ impl RequestNode {
             Seat::Outer(place) => place,
             Seat::Inner(_) => unreachable!(),
         }
+    }
+
+    /// Whether a child is to be handed out.
+    pub fn has_child_due(&self) -> bool
+        ensures due { result ≡ true → self.now.kids.kids.handed < length self.now.kids.kids.kids }
+        ensures none { result ≡ false → self.now.kids.kids.handed ≡ length self.now.kids.kids.kids }
+    {
+        matches!(self.kids.next(), KidStep::Child(_))
     }
 }

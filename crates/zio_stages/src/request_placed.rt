@@ -3,7 +3,8 @@
 //! Its block is written as a gang's member is, but behind the operations for the request's children.
 
 ghost use Rattle.std.specs.Prelude.{◌≡◌, ◌∷◌, ◌<◌, IfOk, IfSome, List as Seq, None, Ok, OnErr, OnOk, Some, [], false, true};
-ghost use Rattle.zio_types.specs.declared.request.ChildKind.TheVariants.{Vdev};
+ghost use Rattle.zio_types.specs.declared.place.Top.{Top as SeenTop};
+ghost use Rattle.zio_types.specs.declared.request.ChildKind.TheVariants.{Gang, Vdev};
 ghost use Rattle.zio_types.specs.declared.request.Phase.TheVariants.{Done};
 ghost use Rattle.zio_gang.specs.Attempts.{Terms};
 ghost use Rattle.zio_frames.specs.Frames.{Stack};
@@ -12,27 +13,28 @@ ghost use Rattle.zio_exchange.specs.SpaceCalls.{AreAsks, SpaceCall};
 ghost use Rattle.zio_stages.specs.LeafWorks.{IsDue};
 ghost use Rattle.zio_stages.specs.NodeChildren.{first_owing};
 ghost use Rattle.zio_stages.specs.NodeIos.{StartsBy, with_one};
-ghost use Rattle.zio_stages.specs.OwnParts.{DoesThen};
-ghost use Rattle.zio_stages.specs.PartNodes.{ComesTo, IsAllocatedOver};
+ghost use Rattle.zio_stages.specs.OwnParts.{DoesThen, HandsTo};
+ghost use Rattle.zio_stages.specs.PartNodes.{IsFreshPart, IsPartNodeOver};
 ghost use Rattle.zio_stages.specs.PartWorks.{HaveUnits};
-ghost use Rattle.zio_stages.specs.RequestCounts.{HasNextMember, IsMoreDueWrite, asked_of, second_of};
+ghost use Rattle.zio_stages.specs.RequestCounts.{HasNextMember, IsMoreDueWrite, asked_of, members_of, path_of, second_of};
 ghost use Rattle.zio_stages.specs.RequestNodes.{IsOwnOver, IsRequestNode};
 ghost use Rattle.zio_stages.specs.RequestStages.{with_own};
 ghost use Rattle.zio_stages.specs.RequestWrites.{
+  HasAsked,
   IsBegunWrite,
   IsDueWrite,
   IsIssuedWrite,
+  IsMemberDue,
   IsPlacedWrite,
   IsReadyWrite,
   IsWrittenWrite,
 };
 ghost use Rattle.zio_stages.specs.Tops.{AreTops};
-ghost use Rattle.zio_stages.specs.declared.part_node.PartNode.{PartNode as SeenPart};
 
 use crate::leaf::LeafWork;
 use crate::node_io::IoNext;
 use crate::own_write::OwnWrite;
-use crate::part_node::Allocated;
+use crate::part_node::PartNode;
 use crate::request_name::body_name;
 use crate::request_node::{Own, RequestNode};
 use std::alloc::Global;
@@ -40,36 +42,68 @@ use zio_exchange::Services;
 use zio_types::{NoMemory, Top};
 
 impl RequestNode {
-    /// Asks the space for the places of the block, for a header's where these are refused, and hands out the gang's
-    /// next member. Where memory is refused what was done before stays.
+    /// Asks the space for the places of the block, and for a header's where these are refused. Where memory is refused
+    /// what was done before stays.
     pub fn dva_allocate<S: Services>(
         &mut self,
         alloc: Global,
         services: &mut S,
-    ) -> Result<Allocated, NoMemory>
+    ) -> Result<(), NoMemory>
         requires begun { IsBegunWrite self.old.own }
-        requires attempt { self.old.attempt < 4 }
         requires over { IsOwnOver (S.tops services.old) self.old.own self.old.family }
         requires tops { AreTops (S.tops services.old) }
         requires units { HaveUnits (S.tops services.old) }
         ensures does { (calls : Seq SpaceCall) × S.made services.old calls services.new ×
             ((t : Terms) (st : Stack) → IsRequestNode t self.old st →
-            DoesThen t st calls (ComesTo t result (IsRequestNode t self.new))) × AreAsks calls }
+            DoesThen t st calls (IsRequestNode t self.new)) × AreAsks calls }
         ensures over { IsOwnOver (S.tops services.old) self.new.own self.new.family }
         ensures tops { S.tops services.new ≡ S.tops services.old }
-        ensures child { IfOk result IsAllocatedOver }
         ensures begun { IsBegunWrite self.new.own }
-        ensures next { (child : SeenPart) → result ≡ Ok (Allocated.Member child)
-            → HasNextMember child self.old.own self.new.own }
-        ensures placed { result ≡ Ok Allocated.Placed → IsPlacedWrite self.new.own }
+        ensures asked { OnOk result (HasAsked self.new.own) }
+        ensures members { members_of self.new.own ≡ members_of self.old.own }
+        ensures path { path_of self.new.own ≡ path_of self.old.own }
+        ensures rest { self.new ≡ with_own self.old self.new.own self.old.family }
+    {
+        let Own::Write(OwnWrite { work }) = &mut self.own else {
+            unreachable!()
+        };
+        work.dva_allocate(alloc, services)
+    }
+
+    /// Whether its block is a gang of which a member is to be handed out.
+    pub fn is_member_due(&self) -> bool
+        requires begun { IsBegunWrite self.now.own }
+        ensures due { result ≡ true → IsMemberDue self.now.own }
+        ensures none { result ≡ false → HasAsked self.now.own → IsPlacedWrite self.now.own }
+    {
+        let Own::Write(own) = &self.own else {
+            unreachable!()
+        };
+        own.work.is_member_due()
+    }
+
+    /// Hands out the gang's next member, which is due. Where memory is refused the node is as before.
+    pub fn next_member(&mut self, alloc: Global) -> Result<PartNode, NoMemory>
+        requires begun { IsBegunWrite self.old.own }
+        requires due { IsMemberDue self.old.own }
+        requires attempt { self.old.attempt < 4 }
+        requires over { (tops : Seq SeenTop) × IsOwnOver tops self.old.own self.old.family }
+        ensures hands { IfOk result (λ child. (t : Terms) (st : Stack) → IsRequestNode t self.old st →
+            HandsTo t Gang (IsFreshPart t child) (IsRequestNode t self.new) st) }
+        ensures over { (tops : Seq SeenTop) → IsOwnOver tops self.old.own self.old.family
+            → IsOwnOver tops self.new.own self.new.family }
+        ensures child { IfOk result (λ child. (tops : Seq SeenTop) → IsPartNodeOver tops child) }
+        ensures begun { IsBegunWrite self.new.own }
+        ensures next { IfOk result (λ child. HasNextMember child self.old.own self.new.own) }
         ensures rest { self.new ≡ with_own self.old self.new.own self.new.family }
+        ensures err { OnErr result (self.new ≡ self.old) }
     {
         let name = body_name(&self.waiting, self.attempt);
         let front = self.kids.len();
         let Own::Write(OwnWrite { work }) = &mut self.own else {
             unreachable!()
         };
-        work.dva_allocate(alloc, services, &mut self.family, &name, front)
+        work.member(alloc, &mut self.family, &name, front)
     }
 
     /// The next operation on a leaf for the copies of its block or its header, which begin if they are due; none where

@@ -7,24 +7,24 @@
 ghost use Rattle.std.specs.Prelude.{◌≡◌, ◌<◌, [], IfOk, IfSome, List as Seq, None, Ok, OnErr, OnOk, Option, Some, false, length, true};
 ghost use Rattle.std.specs.List.{list_all};
 ghost use Rattle.zio_types.specs.declared.place.Top.{Top as SeenTop};
-ghost use Rattle.zio_types.specs.declared.request.ChildKind.TheVariants.{Vdev};
+ghost use Rattle.zio_types.specs.declared.request.ChildKind.TheVariants.{Gang, Vdev};
 ghost use Rattle.zio_types.specs.declared.request.Phase.TheVariants.{Done};
 ghost use Rattle.zio_gang.specs.Attempts.{Terms};
 ghost use Rattle.zio_trace.specs.Plans.{own_read_by};
 ghost use Rattle.zio_children.specs.RequestKids.{is_ended};
-ghost use Rattle.zio_frames.specs.Frames.{Stack};
+ghost use Rattle.zio_frames.specs.Frames.{Stack, fresh_stack};
 ghost use Rattle.zio_frames.specs.Seats.{IsSeated};
 ghost use Rattle.zio_stages.specs.LeafWorks.{IsDue};
 ghost use Rattle.zio_stages.specs.NodeIos.{StartsBy};
 ghost use Rattle.zio_stages.specs.OwnFounds.{own_got};
-ghost use Rattle.zio_stages.specs.OwnParts.{DoesThen, IsOwed};
+ghost use Rattle.zio_stages.specs.CopiesNodes.{IsCopiesNode, IsCopiesOver};
+ghost use Rattle.zio_stages.specs.OwnParts.{DoesThen, HandsTo, IsOwed};
 ghost use Rattle.zio_stages.specs.RequestKinds.{is_gang_tree};
 ghost use Rattle.zio_stages.specs.RequestNodes.{IsOwnOver, IsRequestNode};
 ghost use Rattle.zio_stages.specs.RequestOwns.{IsWaitingOver};
-ghost use Rattle.zio_stages.specs.RequestReads.{HandsBody, HandsWalk, HasFound, HasReadEnded, IsAlone, IsBodyDue, IsBodyStageOver, IsReadWith, IsReadWork, IsReadingWith, IsWalkOver, IsWholeWalk, IssuesBody, ReadsOn, has_read_failed};
-ghost use Rattle.zio_stages.specs.ReadCounts.{AssessesBody, HandsOutWalk, HasHandedAll, HasOneBody, HasWalkBegun, IsMoreToRead, IsNoneDue, IsOneDue, IsUnread, StartsBody};
+ghost use Rattle.zio_stages.specs.RequestReads.{HandsWalk, HasFound, HasReadEnded, IsAlone, IsBodyDue, IsBodyNext, IsReadWith, IsReadWork, IsReadingWith, IsWalkOver, IsWholeWalk, ReadsOn, has_read_failed};
+ghost use Rattle.zio_stages.specs.ReadCounts.{AssessesBody, HandsOutBody, HandsOutWalk, HasHandedAll, HasOneBody, HasWalkBegun, IsMoreToRead, IsNoneDue, IsOneDue, IsUnread, IsWalkDue, StartsBody};
 ghost use Rattle.zio_stages.specs.RequestStages.{with_own};
-ghost use Rattle.zio_stages.specs.declared.copies_node.CopiesNode.{CopiesNode as SeenCopies};
 
 use crate::attempted::RequestKids;
 use crate::check::Check;
@@ -41,15 +41,15 @@ use crate::request_node::{DoneStep, Own, OwnFound, RequestNode};
 use std::alloc::Global;
 use std::mem::replace;
 use zio_gang::{Head, LEVELS_MAX};
-use zio_parts::{TreeStep, Walked};
+use zio_parts::{BodyRead, TreeStep, Walked};
 use zio_script::Work;
 use zio_types::{Bytes, ChildKind, Errno, List, NoMemory, Prio, Role, SECTOR_SIZE, Top};
 
-/// What a read of a gang hands out next.
-#[derive(Drop)]
+/// What comes next of a gang's bodies.
+#[derive(Clone, Copy, Debug)]
 pub enum BodyStage {
-    /// This child reads a body.
-    Body(CopiesNode),
+    /// This one is to be read.
+    Body(BodyRead),
     /// A gang child has to end first.
     Wait,
     /// There is no body to be handed out.
@@ -98,6 +98,21 @@ impl RequestNode {
         Ok(())
     }
 
+    /// Whether the walk over a gang's headers is due.
+    pub fn is_walk_due_read(&self) -> bool
+        ensures due { result ≡ true → IsReadingWith IsWalkDue self.now.own }
+        ensures none { result ≡ false → is_gang_tree self.now.waiting.block ≡ true →
+            IsReadWith (λ w. Unit {0}) self.now.own → IsReadWith HasWalkBegun self.now.own }
+    {
+        let Own::Read(own) = &self.own else {
+            return false;
+        };
+        let TreeStep::Walk = own.next() else {
+            return false;
+        };
+        self.waiting.block.is_some()
+    }
+
     /// Hands the walk over a gang's headers to a child, if it is due. Where memory is refused all is as before.
     pub fn gang_assemble_read(&mut self, alloc: Global) -> Result<Option<HeadsNode>, NoMemory>
         requires reads { IsReadWith IsAlone self.old.own }
@@ -137,51 +152,62 @@ impl RequestNode {
         Ok(Some(HeadsNode::kept(alloc, LEVELS_MAX, name.path, tree.bp, heads, prio, name)))
     }
 
-    /// Hands the read of a gang's next body to a child. Where memory is refused all is as before.
-    pub fn gang_issue_read(&mut self, alloc: Global, tops: &[Top]) -> Result<BodyStage, NoMemory>
+    /// What comes next of a gang's bodies.
+    pub fn next_body(&self) -> BodyStage
+        requires { IsReadWith IsAlone self.now.own }
+        ensures body { (body : BodyRead) → result ≡ BodyStage.Body body → IsReadingWith (IsBodyNext body) self.now.own }
+        ensures waits { result ≡ BodyStage.Wait → (t : Terms) (st : Stack) → IsSeated st → IsRequestNode t self.now st →
+            IsOwed Gang Done st }
+        ensures ended { result ≡ BodyStage.On → is_gang_tree self.now.waiting.block ≡ true →
+            IsReadWith (λ w. HasWalkBegun w → HasHandedAll w) self.now.own }
+    {
+        let gang = is_gang_tree(&self.waiting.block);
+        let Own::Read(own) = &self.own else {
+            return BodyStage::On;
+        };
+        if !gang {
+            return BodyStage::On;
+        }
+        match own.next() {
+            TreeStep::Body(body) => BodyStage::Body(body),
+            TreeStep::Wait => BodyStage::Wait,
+            TreeStep::Walk | TreeStep::End => BodyStage::On,
+        }
+    }
+
+    /// Hands the read of this body, which is the gang's next, to a child. Where memory is refused all is as before.
+    pub fn gang_issue_read(
+        &mut self,
+        alloc: Global,
+        tops: &[Top],
+        body: BodyRead,
+    ) -> Result<CopiesNode, NoMemory>
         requires reads { IsReadWith IsAlone self.old.own }
+        requires next { IsReadingWith (IsBodyNext body) self.old.own }
         requires attempt { self.old.attempt < 4 }
         requires over { IsOwnOver tops.now self.old.own self.old.family }
-        ensures hands { IfOk result (λ stage. (t : Terms) (st : Stack) → t.setting.tops ≡ tops.now →
+        ensures hands { IfOk result (λ child. (t : Terms) (st : Stack) → t.setting.tops ≡ tops.now →
             IsRequestNode t self.old st →
-            HandsBody t stage (IsRequestNode t self.new) st) }
-        ensures child_over { IfOk result (IsBodyStageOver tops.now) }
-        ensures goes { IfOk result (λ stage. IssuesBody stage self.old.own self.new.own) }
-        ensures reading { (child : SeenCopies) → result ≡ Ok (BodyStage.Body child)
-            → IsReadingWith (λ w. Unit {0}) self.old.own }
-        ensures wait { result ≡ Ok BodyStage.Wait → self.new ≡ self.old }
-        ensures on { result ≡ Ok BodyStage.On → self.new ≡ self.old }
-        ensures ended { result ≡ Ok BodyStage.On → is_gang_tree self.old.waiting.block ≡ true →
-            IsReadWith (λ w. HasWalkBegun w → HasHandedAll w) self.new.own }
+            HandsTo t Gang (λ op. IsCopiesNode t child (fresh_stack op)) (IsRequestNode t self.new) st) }
+        ensures child_over { IfOk result (IsCopiesOver tops.now) }
+        ensures goes { OnOk result (ReadsOn HandsOutBody self.old.own self.new.own) }
         ensures over { IsOwnOver tops.now self.new.own self.new.family }
         ensures reads { IsReadWith IsAlone self.new.own }
         ensures waiting { self.new.waiting ≡ self.old.waiting }
         ensures rest { self.new ≡ with_own self.old self.new.own self.new.family }
         ensures err { OnErr result (self.new ≡ self.old) }
     {
-        let gang = is_gang_tree(&self.waiting.block);
         let Own::Read(own) = &mut self.own else {
-            return Ok(BodyStage::On);
+            unreachable!()
         };
-        if !gang {
-            return Ok(BodyStage::On);
-        }
-        match own.next() {
-            TreeStep::Body(body) => {
-                let front = self.kids.len();
-                let places = places_of(alloc, &body.bp)?;
-                let len = body.bp.size as usize;
-                let name = body_name(&self.waiting, self.attempt).at(body.path, Role::Body);
-                own.gang_issue(&mut self.family, front, body, name.label(len))?;
-                let prio = prio_of(&self.waiting.request.work);
-                let check = Check::body(body.bp);
-                Ok(BodyStage::Body(CopiesNode::new(
-                    alloc, tops, places, len, true, check, prio, name,
-                )))
-            }
-            TreeStep::Wait => Ok(BodyStage::Wait),
-            TreeStep::Walk | TreeStep::End => Ok(BodyStage::On),
-        }
+        let front = self.kids.len();
+        let places = places_of(alloc, &body.bp)?;
+        let len = body.bp.size as usize;
+        let name = body_name(&self.waiting, self.attempt).at(body.path, Role::Body);
+        own.gang_issue(&mut self.family, front, body, name.label(len))?;
+        let prio = prio_of(&self.waiting.request.work);
+        let check = Check::body(body.bp);
+        Ok(CopiesNode::new(alloc, tops, places, len, true, check, prio, name))
     }
 
     /// The next operation on a leaf of a body that the node reads itself, whose read begins if it is due. None is there

@@ -1,3 +1,6 @@
+ghost use Rattle.std.specs.Prelude.{◌≡◌, ◌≤◌, ℕ, false};
+ghost use Rattle.zio_vqueue.specs.Queues.{is_queued};
+
 use std::alloc::Global;
 use std::test::Fail;
 use zio_faults::{FaultKind, FaultTable, On, Row};
@@ -25,30 +28,52 @@ const REPAIR: Flags = Flags {
     repair: true,
 };
 
-/// Queues an operation under a ticket that isn't queued.
-fn put(
-    queue: &mut VQueue,
-    ticket: u64,
-    prio: Prio,
-    at: u32,
-    len: u32,
-    flags: Flags,
-) -> Result<(), NoMemory> {
-    if queue.has(ticket) {
-        return Ok(());
+/// A queue whose operations have tickets in the order of putting, from 0 on.
+#[derive(Drop)]
+struct Numbered {
+    queue: VQueue,
+    next: u64,
+    ghost fresh: { (ticket : ℕ) → next ≤ ticket → is_queued ticket queue.queued ≡ false },
+}
+
+impl Numbered {
+    fn new(alloc: Global) -> Numbered {
+        Numbered {
+            queue: VQueue::new(alloc),
+            next: 0,
+        }
     }
-    queue.put(Op {
-        ticket,
-        write: matches!(prio, Prio::SyncWrite | Prio::AsyncWrite),
-        at: u64::from(at),
-        len,
-        prio,
-        flags,
-    })
+
+    /// Queues an operation under the next ticket.
+    fn put(&mut self, prio: Prio, at: u32, len: u32, flags: Flags) -> Result<(), NoMemory> {
+        let Some(next) = self.next.checked_add(1) else {
+            return Ok(());
+        };
+        self.queue.put(Op {
+            ticket: self.next,
+            write: matches!(prio, Prio::SyncWrite | Prio::AsyncWrite),
+            at: u64::from(at),
+            len,
+            prio,
+            flags,
+        })?;
+        self.next = next;
+        Ok(())
+    }
+
+    fn take(&mut self) -> Result<Option<Group>, NoMemory> {
+        self.queue.take()
+    }
+
+    fn done(&mut self, group: Group) {
+        if self.queue.active(group.prio) > 0 {
+            self.queue.done(group);
+        }
+    }
 }
 
 /// The next group's span and the tickets of its members; nothing where none is eligible.
-fn take(alloc: Global, queue: &mut VQueue) -> Result<String, NoMemory> {
+fn take(alloc: Global, queue: &mut Numbered) -> Result<String, NoMemory> {
     let mut text = String::new(alloc);
     if let Some(group) = queue.take()? {
         let (at, len) = (group.at, group.len);
@@ -63,11 +88,9 @@ fn take(alloc: Global, queue: &mut VQueue) -> Result<String, NoMemory> {
 
 /// Whether the first group of plain operations, whose tickets count from 0, is the wanted one.
 fn gives(alloc: Global, ops: &[(Prio, u32, u32)], wanted: &str) -> Result<bool, NoMemory> {
-    let mut queue = VQueue::new(alloc);
-    let mut ticket = 0u64;
+    let mut queue = Numbered::new(alloc);
     for (prio, at, len) in ops {
-        put(&mut queue, ticket, *prio, *at, *len, PLAIN)?;
-        ticket = ticket.wrapping_add(1);
+        queue.put(*prio, *at, *len, PLAIN)?;
     }
     let group = take(alloc, &mut queue)?;
     Ok(group.as_str() == wanted)
@@ -118,50 +141,41 @@ fn a_group_grows_downward_first(rt: HostRuntime) -> Result<(), Fail> {
 
 #[test]
 fn repairs_and_loners_are_apart(rt: HostRuntime) -> Result<(), Fail> {
-    let mut queue = VQueue::new(rt.alloc());
-    put(&mut queue, 0, Prio::AsyncWrite, 0, 512, PLAIN)?;
-    put(&mut queue, 1, Prio::AsyncWrite, 512, 512, REPAIR)?;
-    put(&mut queue, 2, Prio::AsyncWrite, 1024, 512, REPAIR)?;
-    put(&mut queue, 3, Prio::AsyncWrite, 1536, 512, ALONE)?;
+    let mut queue = Numbered::new(rt.alloc());
+    queue.put(Prio::AsyncWrite, 0, 512, PLAIN)?;
+    queue.put(Prio::AsyncWrite, 512, 512, REPAIR)?;
+    queue.put(Prio::AsyncWrite, 1024, 512, REPAIR)?;
+    queue.put(Prio::AsyncWrite, 1536, 512, ALONE)?;
     assert_eq!(rt; take(rt.alloc(), &mut queue)?.as_str(), "0+512: 0");
     assert_eq!(rt; take(rt.alloc(), &mut queue)?.as_str(), "512+1024: 1 2");
     assert_eq!(rt; take(rt.alloc(), &mut queue)?.as_str(), "1536+512: 3");
-    assert!(rt; !queue.has(3));
+    assert_eq!(rt; take(rt.alloc(), &mut queue)?.as_str(), "");
     Ok(())
 }
 
 #[test]
 fn a_class_goes_on_from_the_last_offset_up_to_its_maximum(rt: HostRuntime) -> Result<(), Fail> {
-    let mut queue = VQueue::new(rt.alloc());
-    put(&mut queue, 0, Prio::Scrub, 1_048_576, 512, PLAIN)?;
+    let mut queue = Numbered::new(rt.alloc());
+    queue.put(Prio::Scrub, 1_048_576, 512, PLAIN)?;
     assert_eq!(rt; take(rt.alloc(), &mut queue)?.as_str(), "1048576+512: 0");
-    put(&mut queue, 1, Prio::Scrub, 0, 512, PLAIN)?;
-    put(&mut queue, 2, Prio::Scrub, 2_097_152, 512, PLAIN)?;
-    put(&mut queue, 3, Prio::Scrub, 4_194_304, 512, PLAIN)?;
+    queue.put(Prio::Scrub, 0, 512, PLAIN)?;
+    queue.put(Prio::Scrub, 2_097_152, 512, PLAIN)?;
+    queue.put(Prio::Scrub, 4_194_304, 512, PLAIN)?;
     assert_eq!(rt; take(rt.alloc(), &mut queue)?.as_str(), "2097152+512: 2");
     let third = queue.take()?.ok_or("no third group")?;
     assert_eq!(rt; third.at, 4194304);
     assert_eq!(rt; take(rt.alloc(), &mut queue)?.as_str(), "");
-    assert_eq!(rt; queue.active(Prio::Scrub), 3);
-    if queue.active(third.prio) > 0 {
-        queue.done(third);
-    }
+    assert_eq!(rt; queue.queue.active(Prio::Scrub), 3);
+    queue.done(third);
     assert_eq!(rt; take(rt.alloc(), &mut queue)?.as_str(), "0+512: 1");
     Ok(())
 }
 
 #[test]
 fn eight_writes_are_one_group_that_a_fault_parts(rt: HostRuntime) -> Result<(), Fail> {
-    let mut queue = VQueue::new(rt.alloc());
+    let mut queue = Numbered::new(rt.alloc());
     for i in 0..8u32 {
-        put(
-            &mut queue,
-            u64::from(i),
-            Prio::AsyncWrite,
-            4096 * i,
-            4096,
-            PLAIN,
-        )?;
+        queue.put(Prio::AsyncWrite, 4096 * i, 4096, PLAIN)?;
     }
     let group = queue.take()?.ok_or("no group")?;
     assert_eq!(rt; (group.at, group.len), (0, 32768));

@@ -16,7 +16,7 @@ use zio_staged::Staged;
 use zio_types::{List, NoMemory, Rest, Top};
 
 /// How many nodes beside the one whose turn it is a helper is given at a time.
-const FURTHER_MAX: u32 = 63;
+const FURTHER_MAX: u32 = 255;
 
 /// Lets the helper reckon ahead, where the node under the key, whose turn it is, and others behind it have much to
 /// reckon. Their stages are run by that; the others are queued again. Each sound round is kept as far as it was, with

@@ -9,15 +9,15 @@ use Rattle.std.specs.declared.cmp.Ordering.TheVariants.{Greater}
 use Rattle.zio_vqueue.specs.declared.op.Op.{Op}
 use Rattle.zio_vqueue.specs.declared.spots.Spot.{Spot}
 use Rattle.zio_vqueue.specs.Queues.{AreApart, FitsDevice, is_queued, without}
-use Rattle.zio_vqueue.specs.Spots.{AreBefore, AreThere, IsShelved, at_spot, at_time, class_spot, is_sought_at, is_spot, join_spot, kept_at, ticket_spot}
+use Rattle.zio_vqueue.specs.Spots.{AreBefore, AreThere, IsShelved, at_spot, at_time, class_spot, is_sought_at, is_spot, join_spot, kept_at}
 use Rattle.zio_vqueue.proofs.GatherLemmas.{values-append}
 
 -- ---- times
 
-is_eq-nat : (a b : ℕ) → is_eq (nat_cmp a b) ≡ (a == b)
+pub is_eq-nat : (a b : ℕ) → is_eq (nat_cmp a b) ≡ (a == b)
 is_eq-nat a b = grind (arith, nat_tests)
 
-equal_from : (a b : ℕ) → (a == b) ≡ true → a ≡ b
+pub equal_from : (a b : ℕ) → (a == b) ≡ true → a ≡ b
 equal_from a b e = grind (arith, nat_tests)
 
 pub insert_last : (time : ℕ) (op : Op) (es : List (ℕ × Op)) → AreBefore time es → insert_entry nat_cmp es time op ≡ es ++ (time, op) ∷ []
@@ -55,15 +55,14 @@ spot_time a q e = go (a.shelf == q.shelf) (a.rank == q.rank) (a.time == q.time) 
     go false y z e = absurd (true≢false (sym e))
 
 sought_time : (time : ℕ) (o : Op) (q : Spot) → is_sought_at time o q ≡ true → (time == q.time) ≡ true
-sought_time time o q e = go (is_spot (class_spot time o) q) (is_spot (ticket_spot time o) q) (not o.flags.dont_aggregate) (is_spot (join_spot time o) q)
-    (spot_time (class_spot time o) q) (spot_time (ticket_spot time o) q) (spot_time (join_spot time o) q) e
+sought_time time o q e = go (is_spot (class_spot time o) q) (not o.flags.dont_aggregate) (is_spot (join_spot time o) q)
+    (spot_time (class_spot time o) q) (spot_time (join_spot time o) q) e
   where
-    go : (a b n d : Bool) → (a ≡ true → (time == q.time) ≡ true) → (b ≡ true → (time == q.time) ≡ true) → (d ≡ true → (time == q.time) ≡ true) → (a || (b || (n && d))) ≡ true → (time == q.time) ≡ true
-    go true b n d f g h e = f refl
-    go false true n d f g h e = g refl
-    go false false true true f g h e = h refl
-    go false false true false f g h e = absurd (true≢false (sym e))
-    go false false false d f g h e = absurd (true≢false (sym e))
+    go : (a n d : Bool) → (a ≡ true → (time == q.time) ≡ true) → (d ≡ true → (time == q.time) ≡ true) → (a || (n && d)) ≡ true → (time == q.time) ≡ true
+    go true n d f g e = f refl
+    go false true true f g e = g refl
+    go false true false f g e = absurd (true≢false (sym e))
+    go false false d f g e = absurd (true≢false (sym e))
 
 -- ---- putting
 
@@ -196,6 +195,14 @@ queued-filter t p (o ∷ os) h = go (p o) (queued-filter t p os (neither (o.tick
     go true k = rw ((neither (o.ticket == t) (is_queued t os) h).0, k) refl
     go false k = k
 
+-- a ticket that isn't queued isn't once another is put, or some are taken
+pub queued_push : (t : ℕ) (os : List Op) (o : Op) → is_queued t os ≡ false → (o.ticket == t) ≡ false → is_queued t (os ++ o ∷ []) ≡ false
+queued_push t os o e f = any-append t os (o ∷ []) ∙ rw (e, f) refl
+
+pub queued_without : (t : ℕ) (ms os : List Op) → is_queued t os ≡ false → is_queued t (without ms os) ≡ false
+queued_without t [] os e = e
+queued_without t (m ∷ ms) os e = queued_without t ms (filter (λ o. not (o.ticket == m.ticket)) os) (queued-filter t (λ o. not (o.ticket == m.ticket)) os e)
+
 pub apart-filter : (p : Op → Bool) (os : List Op) → AreApart os → AreApart (filter p os)
 apart-filter p [] h = tt
 apart-filter p (o ∷ os) h = go (p o) (apart-filter p os h.1)
@@ -239,10 +246,6 @@ drop_here k xs x l e = drop-cons xs k x l ∙ ap (λ y. y ∷ drop (suc k) xs) (
   where
     suc_is : (n : ℕ) → suc n ≡ n + 1
     suc_is n = omega arith
-
-pub unstands : (es : List (ℕ × Op)) (fs : List (Spot × Op)) (time : ℕ) (op : Op) (q : Spot) →
-    at_spot fs q ≡ cond (is_sought_at time op q) (Some op) (kept_at q (at_time es q.time)) → is_sought_at time op q ≡ false → at_spot fs q ≡ kept_at q (at_time es q.time)
-unstands es fs time op q stands out = stands ∙ ap (λ b. cond b (Some op) (kept_at q (at_time es q.time))) out
 
 pub drop_at : {X : Type 0} (k : ℕ) (xs : List X) (d : X) → k < length xs → drop k xs ≡ get_or xs k d ∷ drop (k + 1) xs
 drop_at k xs d l = drop-cons xs k d l ∙ ap (λ n. get_or xs k d ∷ drop n xs) (suc_is k)

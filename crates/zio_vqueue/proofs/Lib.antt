@@ -1,10 +1,12 @@
 pub mod SpotLemmas
 pub mod RangeLemmas
 pub mod GatherLemmas
+pub mod EntryLemmas
 pub mod ShelfLemmas
 pub mod IndexLemmas
 pub mod CountLemmas
 pub mod TimedLemmas
 pub mod ServeLemmas
+pub mod ByTimeLemmas
 pub mod MemberLemmas
 pub mod TakeLemmas

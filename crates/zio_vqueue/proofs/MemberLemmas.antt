@@ -16,7 +16,8 @@ use Rattle.zio_vqueue.specs.Spots.{AreGathered, AreJoined, AreThere, IsIndexed, 
 use Rattle.zio_vqueue.proofs.GatherLemmas.{values-append}
 use Rattle.zio_vqueue.proofs.IndexLemmas.{apart-filter, neither, equal_flip}
 use Rattle.zio_vqueue.proofs.ServeLemmas.{any-arranged_by, any-put, there-filter, there_all}
-use Rattle.zio_vqueue.proofs.ShelfLemmas.{AllAfter, after_yet, equal_itself, none_after, shelf_of, some_none, some_some, values-join_shelf}
+use Rattle.zio_vqueue.proofs.EntryLemmas.{some_none, some_some}
+use Rattle.zio_vqueue.proofs.ShelfLemmas.{AllAfter, after_yet, equal_itself, none_after, shelf_of, values-join_shelf}
 use Rattle.zio_vqueue.proofs.SpotLemmas.{spot_exact, spot_total}
 
 -- ---- a shelf below, at and above one of its spots
@@ -90,14 +91,13 @@ shelf_split k o (f ∷ fs) sorted h = go (spot_cmp k f.0) refl (shelf_split k o 
 -- an operation that may be joined stands on the shelf for that
 joins_at : (time : ℕ) (o : Op) → o.flags.dont_aggregate ≡ false → is_sought_at time o (join_spot time o) ≡ true
 joins_at time o e =
-    third _ _ _ _ (ap not e) (rw (equal_itself (join_shelf o.write o.flags.repair), equal_itself o.at, equal_itself time) refl)
+    either _ _ _ (ap not e) (rw (equal_itself (join_shelf o.write o.flags.repair), equal_itself o.at, equal_itself time) refl)
   where
-    third : (a b c d : Bool) → c ≡ true → d ≡ true → (a || (b || (c && d))) ≡ true
-    third true b c d e f = refl
-    third false true c d e f = refl
-    third false false true true e f = refl
-    third false false false d e f = e
-    third false false true false e f = f
+    either : (a b c : Bool) → b ≡ true → c ≡ true → (a || (b && c)) ≡ true
+    either true b c e f = refl
+    either false true true e f = refl
+    either false false c e f = e
+    either false true false e f = f
 
 stands_at : (es : List (ℕ × Op)) (fs : List (Spot × Op)) (time : ℕ) (o : Op) → IsIndexed es fs → at_time es time ≡ Some o → o.flags.dont_aggregate ≡ false →
     at_spot fs (join_spot time o) ≡ Some o

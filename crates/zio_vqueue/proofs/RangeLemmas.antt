@@ -1,18 +1,14 @@
 -- The parts of the spots that ranges hold.
-use Rattle.std.proofs.Common.{◌≡◌, ℕ, ◌+◌, List, [], ◌∷◌, Bool, true, false, ◌&&◌, ◌||◌, not, Option, Some, None, refl, ap, sym, ◌∙◌, ◌<◌, arith, ◌==◌, nat_le, nat_lt, filter, slice_get, is_some}
+use Rattle.std.proofs.Common.{◌≡◌, ℕ, ◌+◌, List, [], ◌∷◌, Bool, true, false, ◌&&◌, ◌||◌, not, Some, None, refl, ◌∙◌, arith, ◌==◌, nat_le, nat_lt, filter, slice_get}
 use Rattle.std.proofs.lemmas.Bool.Decides.{nat_tests}
 use Rattle.std.specs.Ordering.{nat_cmp, ordering_then, is_eq, is_lt, is_le}
 use Rattle.std.specs.declared.cmp.Ordering.{Ordering}
 use Rattle.std.specs.declared.cmp.Ordering.TheVariants.{Less, Equal, Greater}
 use Rattle.std.specs.declared.ops.Bound.TheVariants.{Included, Excluded}
-use Rattle.std.specs.List.{AllByRecursion}
-use Rattle.std.specs.List.Sorted.{IsStrictlySortedBy}
-use Rattle.std.specs.Map.{keys_of}
-use Rattle.std.specs.Map.Iter.{TakesFirst}
 use Rattle.std.specs.BTreeMap.Range.{entries_between, range_contains}
 use Rattle.zio_vqueue.specs.declared.op.Op.{Op}
 use Rattle.zio_vqueue.specs.declared.spots.Spot.{Spot}
-use Rattle.zio_vqueue.specs.Spots.{above_spot, below_spot, first_on, is_at_rank, is_on_shelf, spot_cmp}
+use Rattle.zio_vqueue.specs.Spots.{above_spot, below_spot, is_on_shelf, spot_cmp}
 
 -- a test that answers as another passes the same
 pub filter_alike : {X : Type 0} (p q : X → Bool) → ((x : X) → p x ≡ q x) → (xs : List X) → filter p xs ≡ filter q xs
@@ -114,59 +110,3 @@ first_of_rest x xs ys e = rw e refl
 
 pub none_of_rest : {X : Type 0} (xs : List X) → xs ≡ [] → slice_get xs 0 ≡ None
 none_of_rest xs e = rw e refl
-
--- ---- the first from a rank on
-
-abbrev pub is_of_rank : ℕ → Option (Spot × Op) → Bool
-is_of_rank rank None = false
-is_of_rank rank (Some f) = f.0.rank == rank
-
-later_spot : (shelf rank : ℕ) (a : Spot) (f : Spot × Op) → a.shelf ≡ shelf → rank < a.rank → spot_cmp a f.0 ≡ Less
-    → is_at_rank shelf rank f ≡ false
-later_spot shelf rank a f same above less =
-    let l = sym (lt_spot a f.0) ∙ ap is_lt less in
-    grind (arith, nat_tests)
-
-none_later : (shelf rank : ℕ) (a : Spot) (fs : List (Spot × Op)) → a.shelf ≡ shelf → rank < a.rank
-    → AllByRecursion (λ (q : Spot). spot_cmp a q ≡ Less) (keys_of fs) → filter (is_at_rank shelf rank) fs ≡ []
-none_later shelf rank a [] same above all = refl
-none_later shelf rank a (f ∷ fs) same above all =
-    rw (later_spot shelf rank a f same above all.0) (none_later shelf rank a fs same above all.1)
-
-same_place : (shelf rank : ℕ) (f : Spot × Op) → is_on_shelf shelf rank f ≡ true → is_at_rank shelf rank f ≡ (f.0.rank == rank)
-same_place shelf rank f on = grind (arith, nat_tests)
-
-above_place : (shelf rank : ℕ) (f : Spot × Op) → is_on_shelf shelf rank f ≡ true → (f.0.rank == rank) ≡ false
-    → (f.0.shelf ≡ shelf) × (rank < f.0.rank)
-above_place shelf rank f on other = (grind (arith, nat_tests), grind (arith, nat_tests))
-
-not_at : (shelf rank : ℕ) (f : Spot × Op) → is_on_shelf shelf rank f ≡ false → is_at_rank shelf rank f ≡ false
-not_at shelf rank f off = grind (arith, nat_tests)
-
-at_first : (shelf rank : ℕ) (f : Spot × Op) (fs : List (Spot × Op)) (same : Bool) → (f.0.rank == rank) ≡ same
-    → is_on_shelf shelf rank f ≡ true → AllByRecursion (λ (q : Spot). spot_cmp f.0 q ≡ Less) (keys_of fs)
-    → is_some (slice_get (filter (is_at_rank shelf rank) (f ∷ fs)) 0) ≡ same
-at_first shelf rank f fs true e on later = rw (same_place shelf rank f on ∙ e) refl
-at_first shelf rank f fs false e on later =
-    let above = above_place shelf rank f on e in
-    rw (same_place shelf rank f on ∙ e, none_later shelf rank f.0 fs above.0 above.1 later) refl
-
-by_first : (shelf rank : ℕ) (f : Spot × Op) (fs : List (Spot × Op)) (on : Bool) → is_on_shelf shelf rank f ≡ on
-    → AllByRecursion (λ (q : Spot). spot_cmp f.0 q ≡ Less) (keys_of fs)
-    → is_of_rank rank (first_on shelf rank fs) ≡ is_some (slice_get (filter (is_at_rank shelf rank) fs) 0)
-    → is_of_rank rank (first_on shelf rank (f ∷ fs)) ≡ is_some (slice_get (filter (is_at_rank shelf rank) (f ∷ fs)) 0)
-by_first shelf rank f fs true e later rest =
-    rw e (sym (at_first shelf rank f fs (f.0.rank == rank) refl e later))
-by_first shelf rank f fs false e later rest = rw (e, not_at shelf rank f e) rest
-
--- in a list in order one is of this rank exactly where the first from the rank on is
-pub rank_first : (shelf rank : ℕ) (fs : List (Spot × Op)) → IsStrictlySortedBy spot_cmp (keys_of fs)
-    → is_of_rank rank (first_on shelf rank fs) ≡ is_some (slice_get (filter (is_at_rank shelf rank) fs) 0)
-unfolding IsStrictlySortedBy
-rank_first shelf rank [] s = refl
-rank_first shelf rank (f ∷ fs) s =
-    by_first shelf rank f fs (is_on_shelf shelf rank f) refl s.0 (rank_first shelf rank fs s.1)
-
-pub first_is_some : {A X : Type 0} (shows : A → X) (r : Option A) (xs ys : List X) → TakesFirst shows xs r ys → is_some r ≡ is_some (slice_get xs 0)
-first_is_some shows None xs ys h = rw h.0 refl
-first_is_some shows (Some a) xs ys h = rw h refl

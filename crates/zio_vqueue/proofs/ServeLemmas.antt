@@ -11,11 +11,11 @@ use Rattle.zio_types.specs.declared.request.Prio.TheVariants.{SyncRead, SyncWrit
 use Rattle.zio_vqueue.specs.declared.op.Op.{Op}
 use Rattle.zio_vqueue.specs.declared.spots.Spot.{Spot}
 use Rattle.zio_vqueue.specs.Classes.{class_number, classes, is_sync, maximum_of, minimum_of}
-use Rattle.zio_vqueue.specs.Queues.{Queue, arranged, eligible, first_in, in_turn, is_due, is_in_class, is_queued, or_else, put_before, turn_in}
-use Rattle.zio_vqueue.specs.Spots.{AreCounted, AreThere, IsIndexed, IsShelved, at_spot, at_time, first_on, first_served, is_at_rank, is_due_by, is_on_shelf, is_sought_at, kept_at, spot_cmp, start_of}
+use Rattle.zio_vqueue.specs.Queues.{Queue, arranged, eligible, first_in, in_turn, is_due, is_in_class, or_else, put_before, turn_in}
+use Rattle.zio_vqueue.specs.Spots.{AreCounted, AreThere, IsIndexed, IsShelved, at_spot, at_time, first_on, first_served, is_due_by, is_on_shelf, is_sought_at, kept_at, spot_cmp, start_of}
 use Rattle.zio_vqueue.proofs.CountLemmas.{class_counted}
 use Rattle.zio_vqueue.proofs.RangeLemmas.{filter_alike}
-use Rattle.zio_vqueue.proofs.ShelfLemmas.{AllAfter, AreRanked, class_is_shelf, ranked-arranged_on, self_equal, shelf_is, shelf_of, ticket_is_shelf, values-arranged_on, values-class_shelf}
+use Rattle.zio_vqueue.proofs.ShelfLemmas.{AllAfter, AreRanked, class_is_shelf, ranked-arranged_on, self_equal, shelf_is, shelf_of, values-arranged_on, values-class_shelf}
 use Rattle.zio_vqueue.proofs.SpotLemmas.{spot_total}
 
 -- ---- whether there is one
@@ -154,7 +154,7 @@ first_served_is c last es fs h =
     ∙ ap (λ r. or_else (find (λ o. is_sync c || nat_le last o.at) (in_turn c (values_of es))) r)
     (first_on_is c 0 es fs h ∙ find_alike _ (λ o. true) (λ o. le_zero (turn_in (is_sync c) o)) (in_turn c (values_of es)))
 
--- ---- a ticket
+-- ---- one of those that are arranged
 
 pub any-put : (p : Op → Bool) (r : Op → ℕ) (o : Op) (os : List Op) → list_any p (put_before r o os) ≡ (p o || list_any p os)
 any-put p r o [] = refl
@@ -173,20 +173,6 @@ any-put p r o (x ∷ xs) = go (nat_le (r o) (r x)) (any-put p r o xs)
 pub any-arranged_by : (p : Op → Bool) (r : Op → ℕ) (os : List Op) → list_any p (arranged r os) ≡ list_any p os
 any-arranged_by p r [] = refl
 any-arranged_by p r (o ∷ os) = any-put p r o (arranged r os) ∙ ap (λ b. p o || b) (any-arranged_by p r os)
-
-filter_all : (os : List Op) → filter (λ o. true) os ≡ os
-filter_all [] = refl
-filter_all (o ∷ os) = ap (λ r. o ∷ r) (filter_all os)
-
-pub has_is : (ticket : ℕ) (es : List (ℕ × Op)) (fs : List (Spot × Op)) → IsIndexed es fs → is_some (slice_get (filter (is_at_rank 9 ticket) fs) 0) ≡ is_queued ticket (values_of es)
-has_is ticket es fs h =
-    ap (λ (gs : List (Spot × Op)). has_any gs) (filter_both (λ f. f.0.shelf == 9) (λ f. f.0.rank == ticket) fs
-    ∙ ap (filter (λ f. f.0.rank == ticket)) (shelf_is 9 (λ o. true) (λ o. o.ticket) ticket_is_shelf es fs h.timed h.sorted h.shelved))
-    ∙ any-values _
-    ∙ ap (λ (os : List Op). has_any os) (values-filter_rank (λ n. n == ticket) (λ o. o.ticket) _ (ranked-arranged_on 9 (λ o. true) (λ o. o.ticket) es)
-    ∙ ap (filter (λ o. o.ticket == ticket)) (values-arranged_on 9 (λ o. true) (λ o. o.ticket) es ∙ ap (arranged (λ o. o.ticket)) (filter_all (values_of es))))
-    ∙ any-filter (λ o. o.ticket == ticket) (arranged (λ o. o.ticket) (values_of es))
-    ∙ any-arranged_by (λ o. o.ticket == ticket) (λ o. o.ticket) (values_of es)
 
 -- ---- what stands on the shelves stands at its time
 

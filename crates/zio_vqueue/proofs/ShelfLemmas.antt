@@ -7,7 +7,7 @@ use Rattle.std.specs.BTreeMap.{is_at}
 use Rattle.std.specs.List.{AllByRecursion}
 use Rattle.std.specs.List.Sorted.{IsStrictlySortedBy}
 use Rattle.std.specs.Map.{keys_of, values_of}
-use Rattle.std.specs.Ordering.{is_eq, nat_cmp, ordering_reverse}
+use Rattle.std.specs.Ordering.{is_eq, nat_cmp}
 use Rattle.std.specs.declared.cmp.Ordering.{Ordering}
 use Rattle.std.specs.declared.cmp.Ordering.TheVariants.{Less, Equal, Greater}
 use Rattle.zio_types.specs.declared.request.Prio.{Prio}
@@ -18,6 +18,7 @@ use Rattle.zio_vqueue.specs.Classes.{class_number, is_sync}
 use Rattle.zio_vqueue.specs.Queues.{arranged, in_turn, is_in_class, put_before, turn_in}
 use Rattle.zio_vqueue.specs.Groups.{candidates, may_join}
 use Rattle.zio_vqueue.specs.Spots.{IsShelved, at_spot, at_time, is_sought_at, join_shelf, kept_at, spot_cmp}
+use Rattle.zio_vqueue.proofs.EntryLemmas.{same_entries}
 use Rattle.zio_vqueue.proofs.SpotLemmas.{is_at-spot, spot_exact, spot_total}
 
 -- ---- the order of spots on one shelf
@@ -155,7 +156,7 @@ apart_in_time q f s x t l a b =
     equal_is Equal e = refl
     equal_is Greater e = absurd (true≢false (sym e))
 
-swapped : (a b : Bool) (x y : Op) (z : Option Op) → (a ≡ true → b ≡ true → ⊥) → cond a (Some x) (cond b (Some y) z) ≡ cond b (Some y) (cond a (Some x) z)
+pub swapped : (a b : Bool) (x y : Op) (z : Option Op) → (a ≡ true → b ≡ true → ⊥) → cond a (Some x) (cond b (Some y) z) ≡ cond b (Some y) (cond a (Some x) z)
 swapped true true x y z h = absurd (h refl refl)
 swapped true false x y z h = refl
 swapped false true x y z h = refl
@@ -277,60 +278,16 @@ none_after a (f ∷ fs) h = ap (λ o. cond (is_eq o) (Some f.1) (at_spot fs a)) 
 pub self_equal : (a : Spot) → is_eq (spot_cmp a a) ≡ true
 self_equal a = is_at-spot a a ∙ rw (equal_itself a.shelf, equal_itself a.rank, equal_itself a.time) refl
 
-pub some_none : (o : Op) → Some o ≡ None → ⊥
-some_none o e = cc
-
-pub some_some : (o p : Op) → Some o ≡ Some p → o ≡ p
-some_some o p e = cc
-
-found_head : (f : Spot × Op) (fs : List (Spot × Op)) → at_spot (f ∷ fs) f.0 ≡ Some f.1
-found_head f fs = ap (λ b. cond b (Some f.1) (at_spot fs f.0)) (self_equal f.0)
-
 pub equal_is : (o : Ordering) → is_eq o ≡ true → o ≡ Equal
 equal_is Less e = absurd (true≢false (sym e))
 equal_is Equal e = refl
 equal_is Greater e = absurd (true≢false (sym e))
 
--- entries in order with the same at each spot are the same
-same_entries : (xs ys : List (Spot × Op)) → IsStrictlySortedBy spot_cmp (keys_of xs) → IsStrictlySortedBy spot_cmp (keys_of ys) → ((q : Spot) → at_spot xs q ≡ at_spot ys q) → xs ≡ ys
-unfolding IsStrictlySortedBy
-same_entries [] [] sx sy h = refl
-same_entries [] (y ∷ ys) sx sy h = absurd (some_none y.1 (sym (found_head y ys) ∙ sym (h y.0)))
-same_entries (x ∷ xs) [] sx sy h = absurd (some_none x.1 (sym (found_head x xs) ∙ h x.0))
-same_entries (x ∷ xs) (y ∷ ys) sx sy h = go (spot_cmp x.0 y.0) refl (same_entries xs ys sx.1 sy.1)
-  where
-    go : (o : Ordering) → spot_cmp x.0 y.0 ≡ o → (((q : Spot) → at_spot xs q ≡ at_spot ys q) → xs ≡ ys) → x ∷ xs ≡ y ∷ ys
-    go Less e later = absurd (some_none x.1 (sym (found_head x xs) ∙ h x.0 ∙ none_after x.0 (y ∷ ys) (e, after_yet x.0 y.0 (keys_of ys) e sy.0)))
-    go Greater e later =
-        let f : spot_cmp y.0 x.0 ≡ Less = spot_total.antisymm y.0 x.0 ∙ ap ordering_reverse e in
-        absurd (some_none y.1 (sym (found_head y ys) ∙ sym (h y.0) ∙ none_after y.0 (x ∷ xs) (f, after_yet y.0 x.0 (keys_of xs) f sx.0)))
-    go Equal e later = λ i. both i ∷ later tails i
-      where
-        spot : x.0 ≡ y.0
-        spot = spot_exact x.0 y.0 e
-
-        op : x.1 ≡ y.1
-        op = some_some x.1 y.1 (sym (found_head x xs) ∙ h x.0 ∙ ap (λ o. cond (is_eq o) (Some y.1) (at_spot ys x.0)) e)
-
-        both : x ≡ y
-        both = λ i. (spot i, op i)
-
-        tails : (q : Spot) → at_spot xs q ≡ at_spot ys q
-        tails q = tail (is_eq (spot_cmp q x.0)) refl
-          where
-            tail : (b : Bool) → is_eq (spot_cmp q x.0) ≡ b → at_spot xs q ≡ at_spot ys q
-            tail true t =
-                let same : q ≡ x.0 = spot_exact q x.0 (equal_is _ t) in
-                ap (at_spot xs) same ∙ none_after x.0 xs sx.0 ∙ sym (ap (at_spot ys) (same ∙ spot) ∙ none_after y.0 ys sy.0)
-            tail false t =
-                ap (λ b. cond b (Some x.1) (at_spot xs q)) (sym t) ∙ h q
-                ∙ ap (λ b. cond b (Some y.1) (at_spot ys q)) (ap (λ z. is_eq (spot_cmp q z)) (sym spot) ∙ t)
-
 -- the shelf's entries are the operations that are kept there, by rank and by time
 pub shelf_is : (s : ℕ) (p : Op → Bool) (r : Op → ℕ) → IsShelfOf s p r → (es : List (ℕ × Op)) (fs : List (Spot × Op)) → IsStrictlySortedBy nat_cmp (keys_of es) →
     IsStrictlySortedBy spot_cmp (keys_of fs) → IsShelved es fs → shelf_of s fs ≡ arranged_on s p r es
 shelf_is s p r shelf es fs timed sorted shelved =
-    same_entries (shelf_of s fs) (arranged_on s p r es) (sorted-filter (λ f. f.0.shelf == s) fs sorted) (sorted-arranged_on s p r es timed) found
+    same_entries spot_total spot_exact (shelf_of s fs) (arranged_on s p r es) (sorted-filter (λ f. f.0.shelf == s) fs sorted) (sorted-arranged_on s p r es timed) found
   where
     found : (q : Spot) → at_spot (shelf_of s fs) q ≡ at_spot (arranged_on s p r es) q
     found q =
@@ -388,8 +345,8 @@ not_equal a b l = grind (arith, nat_tests)
 pub not_equal_back : (a b : ℕ) → b < a → (a == b) ≡ false
 not_equal_back a b l = grind (arith, nat_tests)
 
-join_alone : (a b c d n x : Bool) (y z w v : Bool) → a ≡ false → b ≡ false → x ≡ (c && d) → v ≡ true → ((a && (y && v)) || ((b && (z && v)) || (not n && (x && (w && v))))) ≡ ((c && d && not n) && w)
-join_alone false false c d n x y z w true p q r t = rw r (go c d n w)
+join_alone : (a c d n x : Bool) (y w v : Bool) → a ≡ false → x ≡ (c && d) → v ≡ true → ((a && (y && v)) || (not n && (x && (w && v)))) ≡ ((c && d && not n) && w)
+join_alone false c d n x y w true p r t = rw r (go c d n w)
   where
     go : (c d n w : Bool) → (not n && ((c && d) && (w && true))) ≡ ((c && d && not n) && w)
     go true true true w = refl
@@ -399,33 +356,29 @@ join_alone false false c d n x y z w true p q r t = rw r (go c d n w)
     go true false false w = refl
     go false d true w = refl
     go false d false w = refl
-join_alone true b c d n x y z w v p q r t = absurd (true≢false p)
-join_alone false true c d n x y z w v p q r t = absurd (true≢false q)
-join_alone false false c d n x y z w false p q r t = absurd (true≢false (sym t))
+join_alone true c d n x y w v p r t = absurd (true≢false p)
+join_alone false c d n x y w false p r t = absurd (true≢false (sym t))
 
 join_is_shelf : (first : Op) → IsShelfOf (join_shelf first.write first.flags.repair) (may_join first) (λ o. o.at)
 join_is_shelf first o rank time =
-    join_alone _ _ (beq o.write first.write) (beq o.flags.repair first.flags.repair) o.flags.dont_aggregate _ _ _ (o.at == rank) (time == time)
+    join_alone _ (beq o.write first.write) (beq o.flags.repair first.flags.repair) o.flags.dont_aggregate _ _ (o.at == rank) (time == time)
     (not_equal _ _ (omega (arith, class_below o.prio, (join_between first.write first.flags.repair).0)))
-    (not_equal_back _ _ (join_between first.write first.flags.repair).1)
     (same_join o.write o.flags.repair first.write first.flags.repair) (equal_itself time)
 
-class_alone : (a b c n y v z w : Bool) → b ≡ false → c ≡ false → v ≡ true → ((a && (y && v)) || ((b && z) || (not n && (c && w)))) ≡ (a && y)
-class_alone true false false true true true z w p q t = refl
-class_alone true false false true false true z w p q t = refl
-class_alone true false false false true true z w p q t = refl
-class_alone true false false false false true z w p q t = refl
-class_alone false false false true y true z w p q t = refl
-class_alone false false false false y true z w p q t = refl
-class_alone a true c n y v z w p q t = absurd (true≢false p)
-class_alone a false true n y v z w p q t = absurd (true≢false q)
-class_alone a false false n y false z w p q t = absurd (true≢false (sym t))
+class_alone : (a c n y v w : Bool) → c ≡ false → v ≡ true → ((a && (y && v)) || (not n && (c && w))) ≡ (a && y)
+class_alone true false true true true w q t = refl
+class_alone true false true false true w q t = refl
+class_alone true false false true true w q t = refl
+class_alone true false false false true w q t = refl
+class_alone false false true y true w q t = refl
+class_alone false false false y true w q t = refl
+class_alone a true n y v w q t = absurd (true≢false q)
+class_alone a false n y false w q t = absurd (true≢false (sym t))
 
 pub class_is_shelf : (c : Prio) → IsShelfOf (class_number c) (is_in_class c) (turn_in (is_sync c))
 class_is_shelf c o rank time =
-    class_alone (class_number o.prio == class_number c) (9 == class_number c) (join_shelf o.write o.flags.repair == class_number c) o.flags.dont_aggregate
-    (turn_in (is_sync o.prio) o == rank) (time == time) _ _
-    (not_equal_back 9 (class_number c) (omega (arith, class_below c)))
+    class_alone (class_number o.prio == class_number c) (join_shelf o.write o.flags.repair == class_number c) o.flags.dont_aggregate
+    (turn_in (is_sync o.prio) o == rank) (time == time) _
     (not_equal_back _ (class_number c) (omega (arith, class_below c, (join_between o.write o.flags.repair).0))) (equal_itself time)
     ∙ go (class_number o.prio == class_number c) refl
   where
@@ -444,21 +397,6 @@ values-join_shelf first es fs timed sorted shelved = values-shelf_of _ (may_join
 pub values-class_shelf : (c : Prio) (es : List (ℕ × Op)) (fs : List (Spot × Op)) → IsStrictlySortedBy nat_cmp (keys_of es) →
     IsStrictlySortedBy spot_cmp (keys_of fs) → IsShelved es fs → values_of (shelf_of (class_number c) fs) ≡ in_turn c (values_of es)
 values-class_shelf c es fs timed sorted shelved = values-shelf_of _ (is_in_class c) (turn_in (is_sync c)) (class_is_shelf c) es fs timed sorted shelved
-
--- an operation's ticket is its rank on the shelf of tickets
-pub ticket_is_shelf : IsShelfOf 9 (λ o. true) (λ o. o.ticket)
-ticket_is_shelf o rank time =
-    class_other (class_number o.prio == 9) (join_shelf o.write o.flags.repair == 9) o.flags.dont_aggregate _ _ (o.ticket == rank) (time == time)
-    (not_equal _ _ (omega (arith, class_below o.prio))) (not_equal _ _ (join_between o.write o.flags.repair).1) (equal_itself time)
-  where
-    class_other : (a c n x z y v : Bool) → a ≡ false → c ≡ false → v ≡ true → ((a && x) || ((true && (y && v)) || (not n && (c && z)))) ≡ (true && y)
-    class_other false false true x z true true p q t = refl
-    class_other false false true x z false true p q t = refl
-    class_other false false false x z true true p q t = refl
-    class_other false false false x z false true p q t = refl
-    class_other true c n x z y v p q t = absurd (true≢false p)
-    class_other false true n x z y v p q t = absurd (true≢false q)
-    class_other false false n x z y false p q t = absurd (true≢false (sym t))
 
 -- each entry of a shelf stands at its operation's rank
 abbrev pub AreRanked : (Op → ℕ) → List (Spot × Op) → Type 0

@@ -1,5 +1,5 @@
--- The order of spots, and what stands at them after an operation is put or taken.
-use Rattle.std.proofs.Common.{◌≡◌, ℕ, Bool, true, false, cond, ◌&&◌, ◌||◌, Option, refl, sym, ap, ◌∙◌, arith, ◌==◌}
+-- The order of spots.
+use Rattle.std.proofs.Common.{◌≡◌, ℕ, Bool, true, false, ◌&&◌, refl, sym, ap, ◌∙◌, arith, ◌==◌}
 use Rattle.std.specs.Cmp.{IsTotalOrder}
 use Rattle.std.specs.BTreeMap.{is_at}
 use Rattle.std.specs.Ordering.{nat_cmp, ordering_then, is_eq}
@@ -7,7 +7,6 @@ use Rattle.std.specs.declared.cmp.Ordering.{Ordering}
 use Rattle.std.specs.declared.cmp.Ordering.TheVariants.{Less, Equal, Greater}
 use Rattle.std.proofs.lemmas.Cmp.{nat_cmp_total, on_total, then_total}
 use Rattle.std.proofs.lemmas.Map.Lookups.{CmpEqualImpliesEq, exact_unsigned}
-use Rattle.zio_vqueue.specs.declared.op.Op.{Op}
 use Rattle.zio_vqueue.specs.declared.spots.Spot.{Spot}
 use Rattle.zio_vqueue.specs.Spots.{is_spot, spot_cmp}
 
@@ -46,21 +45,3 @@ spot_exact x y e =
     let rank : x.rank ≡ y.rank = exact_unsigned _ _ (Equal_is _ u.0) in
     let time : x.time ≡ y.time = exact_unsigned _ _ (Equal_is _ u.1) in
     λ i. record { shelf = shelf i; rank = rank i; time = time i }
-
--- ---- an operation at its two or three spots
-
-pub sought_three : (a b c : Bool) (w v0 v1 v2 v3 : Option Op) → v1 ≡ cond a w v0 → v2 ≡ cond b w v1 → v3 ≡ cond c w v2 → v3 ≡ cond (a || (b || (true && c))) w v0
-sought_three true true true w v0 v1 v2 v3 e f g = g
-sought_three true true false w v0 v1 v2 v3 e f g = g ∙ f
-sought_three true false true w v0 v1 v2 v3 e f g = g
-sought_three true false false w v0 v1 v2 v3 e f g = g ∙ f ∙ e
-sought_three false true true w v0 v1 v2 v3 e f g = g
-sought_three false true false w v0 v1 v2 v3 e f g = g ∙ f
-sought_three false false true w v0 v1 v2 v3 e f g = g
-sought_three false false false w v0 v1 v2 v3 e f g = g ∙ f ∙ e
-
-pub sought_two : (a b c : Bool) (w v0 v1 v2 : Option Op) → v1 ≡ cond a w v0 → v2 ≡ cond b w v1 → v2 ≡ cond (a || (b || (false && c))) w v0
-sought_two true true c w v0 v1 v2 e f = f
-sought_two true false c w v0 v1 v2 e f = f ∙ e
-sought_two false true c w v0 v1 v2 e f = f
-sought_two false false c w v0 v1 v2 e f = f ∙ e

@@ -5,16 +5,25 @@ use Rattle.std.specs.Map.{values_of}
 use Rattle.zio_vqueue.specs.declared.op.Op.{Op}
 use Rattle.zio_vqueue.specs.declared.spots.Spot.{Spot}
 use Rattle.zio_vqueue.specs.Queues.{AreApart, FitsDevice, is_queued}
-use Rattle.zio_vqueue.specs.Spots.{AreBefore, IsIndexed}
+use Rattle.zio_vqueue.specs.Spots.{AreBefore, IsIndexed, timed_of}
+use Rattle.zio_vqueue.proofs.ByTimeLemmas.{indexed_none}
 use Rattle.zio_vqueue.proofs.GatherLemmas.{values-append}
 use Rattle.zio_vqueue.proofs.IndexLemmas.{before_next, equal_flip, neither}
 
--- the first of the operations stand at their times and spots, and these are left
+-- the first of the operations stand at their spots, and these are left
 pub record AreTimed (ops : List Op) (es : List (ℕ × Op)) (fs : List (Spot × Op)) (next : ℕ) (left : List Op) : Type 0 where
   pub whole : values_of es ++ left ≡ ops
   pub count : next + length left ≡ length ops
   pub indexed : IsIndexed es fs
   pub before : AreBefore next es
+
+pub timed_none : (ops left : List Op) (fs : List (Spot × Op)) → fs ≡ [] → left ≡ ops → AreTimed ops (timed_of fs) fs 0 left
+timed_none ops left fs none all = subst (λ (gs : List (Spot × Op)). AreTimed ops (timed_of gs) gs 0 left) (sym none) (record {
+  whole = all;
+  count = omega (arith, ap (λ (l : List Op). length l) all);
+  indexed = indexed_none;
+  before = tt;
+})
 
 -- an operation behind others has a ticket of its own
 alone_behind : (ticket : ℕ) (xs : List Op) (o : Op) (left : List Op) → is_queued ticket (xs ++ o ∷ left) ≡ false → (o.ticket == ticket) ≡ false

@@ -1,7 +1,7 @@
--- How queued operations are found: each stands at its time of putting, and at a spot on each shelf that it is sought on.
+-- How queued operations are found: each stands at a spot on each shelf that it is sought on, and its spots bear its time of putting.
 use Rattle.std.specs.Prelude.{◌≡◌, ℕ, ◌<◌, ◌≤◌, List, [], ◌∷◌, ◌++◌, Bool, true, false, ◌&&◌, ◌||◌, not, Option, Some, None, ◌==◌, cond, get_or, All, length, nat_le, nat_lt, filter, slice_get, count_by}
 use Rattle.std.specs.Map.{lookup, values_of, keys_of}
-use Rattle.std.specs.BTreeMap.{is_at}
+use Rattle.std.specs.BTreeMap.{insert_entry, is_at}
 use Rattle.std.specs.List.Sorted.{IsStrictlySortedBy}
 use Rattle.std.specs.Ordering.{is_lt, nat_cmp, ordering_then}
 use Rattle.std.specs.declared.cmp.Ordering.{Ordering}
@@ -9,7 +9,7 @@ use Rattle.zio_types.specs.declared.request.Prio.{Prio}
 use Rattle.zio_vqueue.specs.declared.op.Op.{Op}
 use Rattle.zio_vqueue.specs.declared.spots.Spot.{Spot}
 use Rattle.zio_vqueue.specs.Classes.{class_number, is_sync, maximum_of}
-use Rattle.zio_vqueue.specs.Queues.{AreApart, FitsDevice, end_of, is_in_class, is_queued, or_else, turn_in}
+use Rattle.zio_vqueue.specs.Queues.{AreApart, FitsDevice, end_of, is_in_class, or_else, turn_in}
 use Rattle.zio_vqueue.specs.Groups.{IsRun, gap_max, last_of}
 
 -- spots by shelf, then by rank, then by time
@@ -23,12 +23,9 @@ join_shelf false true = 6
 join_shelf true false = 7
 join_shelf true true = 8
 
--- where an operation that was put at a time is sought: on its class's shelf, by its ticket, and where it may be joined by its offset
+-- where an operation that was put at a time is sought: on its class's shelf, and where it may be joined by its offset
 abbrev pub class_spot : ℕ → Op → Spot
 class_spot time o = record { shelf = class_number o.prio; rank = turn_in (is_sync o.prio) o; time = time }
-
-abbrev pub ticket_spot : ℕ → Op → Spot
-ticket_spot time o = record { shelf = 9; rank = o.ticket; time = time }
 
 abbrev pub join_spot : ℕ → Op → Spot
 join_spot time o = record { shelf = join_shelf o.write o.flags.repair; rank = o.at; time = time }
@@ -38,7 +35,7 @@ is_spot a b = a.shelf == b.shelf && (a.rank == b.rank && a.time == b.time)
 
 -- one of these is the spot q
 abbrev pub is_sought_at : ℕ → Op → Spot → Bool
-is_sought_at time o q = is_spot (class_spot time o) q || (is_spot (ticket_spot time o) q || (not o.flags.dont_aggregate && is_spot (join_spot time o) q))
+is_sought_at time o q = is_spot (class_spot time o) q || (not o.flags.dont_aggregate && is_spot (join_spot time o) q)
 
 -- an operation, where it is sought at this spot
 abbrev pub kept_at : Spot → Option Op → Option Op
@@ -63,6 +60,19 @@ pub record IsIndexed (es : List (ℕ × Op)) (fs : List (Spot × Op)) : Type 0 w
   pub apart : AreApart (values_of es)
   pub fit : All FitsDevice (values_of es)
 
+-- the operations by time, those at some spots put in at the times that these bear
+abbrev pub timed_over : List (Spot × Op) → List (ℕ × Op) → List (ℕ × Op)
+timed_over [] es = es
+timed_over (f ∷ fs) es = timed_over fs (insert_entry nat_cmp es f.0.time f.1)
+
+-- the operations that stand at spots, by the times that these bear
+abbrev pub timed_of : List (Spot × Op) → List (ℕ × Op)
+timed_of fs = timed_over fs []
+
+-- the operations that stand at spots, in the order of putting
+abbrev pub ops_at : List (Spot × Op) → List Op
+ops_at fs = values_of (timed_of fs)
+
 -- all were put before a time
 abbrev pub AreBefore : ℕ → List (ℕ × Op) → Type 0
 AreBefore time [] = Unit {0}
@@ -73,24 +83,9 @@ abbrev pub AreThere : List (ℕ × Op) → List (Spot × Op) → Type 0
 AreThere es [] = Unit {0}
 AreThere es (m ∷ ms) = (at_time es m.0.time ≡ Some m.1) × AreThere es ms
 
--- an operation that is to be put at a time after all others stands at its spots already
-pub record IsEntered (es : List (ℕ × Op)) (fs : List (Spot × Op)) (time : ℕ) (op : Op) : Type 0 where
-  pub timed : IsStrictlySortedBy nat_cmp (keys_of es)
-  pub sorted : IsStrictlySortedBy spot_cmp (keys_of fs)
-  pub shelved : (q : Spot) → at_spot fs q ≡ cond (is_sought_at time op q) (Some op) (kept_at q (at_time es q.time))
-  pub apart : AreApart (values_of es)
-  pub alone : is_queued op.ticket (values_of es) ≡ false
-  pub fit : All FitsDevice (values_of es)
-  pub fits : FitsDevice op
-  pub later : AreBefore time es
-
 -- the entries of a shelf from a rank on
 abbrev pub is_on_shelf : ℕ → ℕ → Spot × Op → Bool
 is_on_shelf shelf rank f = f.0.shelf == shelf && nat_le rank f.0.rank
-
--- the entries of a shelf of one rank
-abbrev pub is_at_rank : ℕ → ℕ → Spot × Op → Bool
-is_at_rank shelf rank f = f.0.shelf == shelf && f.0.rank == rank
 
 -- the first entry of a shelf from a rank on
 abbrev pub first_on : ℕ → ℕ → List (Spot × Op) → Option (Spot × Op)
@@ -182,8 +177,8 @@ pub record IsRising (gap low high : ℕ) (members : List (Spot × Op)) (fs : Lis
   pub high_is : high ≡ end_of (last_of head others)
 
 -- what the fields of a queue keep
-pub record IsKept (es : List (ℕ × Op)) (fs : List (Spot × Op)) (waiting : List ℕ) (next : ℕ) (active : List ℕ) : Type 0 where
-  pub indexed : IsIndexed es fs
-  pub counted : AreCounted waiting (values_of es)
-  pub before : AreBefore next es
+pub record IsKept (fs : List (Spot × Op)) (waiting : List ℕ) (next : ℕ) (active : List ℕ) : Type 0 where
+  pub indexed : IsIndexed (timed_of fs) fs
+  pub counted : AreCounted waiting (ops_at fs)
+  pub before : AreBefore next (timed_of fs)
   pub admitted : AreAdmitted active

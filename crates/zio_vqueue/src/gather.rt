@@ -1,4 +1,4 @@
-ghost use Rattle.std.specs.Prelude.{◌≡◌, ◌+◌, ◌≤◌, ◌∷◌, ◌++◌, [], IfOk, IsTrue, ◌↔◌, reverse};
+ghost use Rattle.std.specs.Prelude.{◌≡◌, ◌+◌, ◌<◌, ◌≤◌, ◌∷◌, ◌++◌, [], IfOk, IsTrue, ◌↔◌, reverse};
 ghost use Rattle.std.specs.Map.{values_of};
 ghost use Rattle.zio_vqueue.specs.Groups.{IsRun, gap_max, span_max};
 ghost use Rattle.zio_vqueue.specs.Queues.{FitsDevice, end_of};
@@ -79,7 +79,7 @@ fn gather_above(
     lower: Vec<(Spot, Op)>,
 ) -> Result<Vec<(Spot, Op)>, NoMemory>
     requires first { FitsDevice first.now }
-    requires shelf { from.shelf ≤ 9 }
+    requires shelf { from.shelf < 9 }
     requires fit { AllFit spots.now.entries }
     requires low { IsLowOf low (values_of lower.items) first.now }
     requires run { IsRun (gap_max first.now.write) (values_of lower.items ++ first.now ∷ []) }

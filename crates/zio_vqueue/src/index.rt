@@ -4,7 +4,7 @@ ghost use Rattle.std.specs.BTreeMap.{is_at};
 ghost use Rattle.std.specs.Ordering.{nat_cmp};
 ghost use Rattle.zio_vqueue.specs.Classes.{classes};
 ghost use Rattle.zio_vqueue.specs.Queues.{AreApart, FitsDevice, is_queued, or_else, without};
-ghost use Rattle.zio_vqueue.specs.Spots.{AreBefore, AreCounted, AreThere, IsEntered, IsIndexed, at_time, first_served, is_due_by};
+ghost use Rattle.zio_vqueue.specs.Spots.{AreBefore, AreCounted, AreThere, IsIndexed, at_time, first_served, is_due_by, ops_at, timed_of};
 
 use crate::class::{ACTIVE_MAX, ACTIVE_MIN, CLASSES, class_number, is_sync};
 use crate::op::Op;
@@ -13,23 +13,18 @@ use std::alloc::Global;
 use std::collections::BTreeMap;
 use zio_types::{NoMemory, Prio};
 
-/// Puts an operation at its time, after all others, and at its spots; or nowhere, where memory is refused.
-pub(crate) fn enter(
-    by_time: &mut BTreeMap<u64, Op>,
-    spots: &mut BTreeMap<Spot, Op>,
-    time: u64,
-    op: Op,
-) -> Result<(), NoMemory>
-    requires indexed { IsIndexed by_time.old.entries spots.old.entries }
+/// Puts an operation at its spots, at a time after those of all others; or nowhere, where memory is refused.
+pub(crate) fn enter(spots: &mut BTreeMap<Spot, Op>, time: u64, op: Op) -> Result<(), NoMemory>
+    requires indexed { IsIndexed (timed_of spots.old.entries) spots.old.entries }
     requires fits { FitsDevice op }
-    requires apart { is_queued op.ticket (values_of by_time.old.entries) ≡ false }
-    requires later { AreBefore time by_time.old.entries }
-    ensures ok { OnOk result (by_time.new.entries ≡ by_time.old.entries ++ (time, op) ∷ []) }
-    ensures err { OnErr result (by_time.new.entries ≡ by_time.old.entries) }
-    ensures indexed { IsIndexed by_time.new.entries spots.new.entries }
+    requires apart { is_queued op.ticket (ops_at spots.old.entries) ≡ false }
+    requires later { AreBefore time (timed_of spots.old.entries) }
+    ensures ok { OnOk result (timed_of spots.new.entries ≡ timed_of spots.old.entries ++ (time, op) ∷ []) }
+    ensures err { OnErr result (timed_of spots.new.entries ≡ timed_of spots.old.entries) }
+    ensures indexed { IsIndexed (timed_of spots.new.entries) spots.new.entries }
 {
     match shelve(spots, time, op) {
-        Ok(()) => enter_time(by_time, spots, time, op),
+        Ok(()) => Ok(()),
         Err(refused) => {
             unshelve(spots, time, &op);
             Err(refused)
@@ -37,31 +32,20 @@ pub(crate) fn enter(
     }
 }
 
-/// Puts an operation that stands at its spots at its time; or takes it from its spots, where memory is refused.
-fn enter_time(
-    by_time: &mut BTreeMap<u64, Op>,
-    spots: &mut BTreeMap<Spot, Op>,
-    time: u64,
-    op: Op,
-) -> Result<(), NoMemory>
-    requires entered { IsEntered by_time.old.entries spots.old.entries time op }
-    ensures ok { OnOk result (by_time.new.entries ≡ by_time.old.entries ++ (time, op) ∷ []) }
-    ensures err { OnErr result (by_time.new.entries ≡ by_time.old.entries) }
-    ensures indexed { IsIndexed by_time.new.entries spots.new.entries }
+/// The operations by time.
+fn by_time(alloc: Global, spots: &BTreeMap<Spot, Op>) -> Result<BTreeMap<u64, Op>, NoMemory>
+    ensures { IfOk result (λ ops. ops.entries ≡ timed_of spots.now.entries) }
 {
-    match by_time.insert(time, op) {
-        Ok(_) => Ok(()),
-        Err(_) => {
-            unshelve(spots, time, &op);
-            Err(NoMemory)
-        }
+    let mut ops = BTreeMap::new(alloc);
+    for (spot, op) in spots {
+        ops.insert(spot.time, *op)?;
     }
+    Ok(ops)
 }
 
-/// Operations at their times and spots, and a time after all of them.
+/// Operations at their spots, and a time after all of them.
 #[derive(Drop)]
 struct Timed {
-    by_time: BTreeMap<u64, Op>,
     spots: BTreeMap<Spot, Op>,
     next: u64,
 }
@@ -70,89 +54,76 @@ struct Timed {
 fn timed_anew(alloc: Global, queued: &BTreeMap<u64, Op>) -> Result<Timed, NoMemory>
     requires apart { AreApart (values_of queued.now.entries) }
     requires fit { All FitsDevice (values_of queued.now.entries) }
-    ensures same { IfOk result (λ timed. values_of timed.by_time.entries ≡ values_of queued.now.entries) }
-    ensures indexed { IfOk result (λ timed. IsIndexed timed.by_time.entries timed.spots.entries) }
-    ensures before { IfOk result (λ timed. AreBefore timed.next timed.by_time.entries) }
+    ensures same { IfOk result (λ timed. ops_at timed.spots.entries ≡ values_of queued.now.entries) }
+    ensures indexed { IfOk result (λ timed. IsIndexed (timed_of timed.spots.entries) timed.spots.entries) }
+    ensures before { IfOk result (λ timed. AreBefore timed.next (timed_of timed.spots.entries)) }
     ensures few { IfOk result (λ timed. timed.next < 2 ^ 63) }
 {
-    let mut by_time = BTreeMap::new(alloc);
     let mut spots = BTreeMap::new(alloc);
     let mut next = 0;
     for op in queued.values() {
-        enter(&mut by_time, &mut spots, next, *op)?;
+        enter(&mut spots, next, *op)?;
         next += 1;
     }
-    Ok(Timed {
-        by_time,
-        spots,
-        next,
-    })
+    Ok(Timed { spots, next })
 }
 
 /// A time after those of all operations. Once such times are used up the operations are put at times from 0 on.
 pub(crate) fn next_time(
     alloc: Global,
-    by_time: &mut BTreeMap<u64, Op>,
     spots: &mut BTreeMap<Spot, Op>,
     next: u64,
 ) -> Result<u64, NoMemory>
-    requires indexed { IsIndexed by_time.old.entries spots.old.entries }
-    requires before { AreBefore next by_time.old.entries }
-    ensures same { values_of by_time.new.entries ≡ values_of by_time.old.entries }
-    ensures indexed { IsIndexed by_time.new.entries spots.new.entries }
-    ensures before { IfOk result (λ time. AreBefore time by_time.new.entries) }
+    requires indexed { IsIndexed (timed_of spots.old.entries) spots.old.entries }
+    requires before { AreBefore next (timed_of spots.old.entries) }
+    ensures same { ops_at spots.new.entries ≡ ops_at spots.old.entries }
+    ensures indexed { IsIndexed (timed_of spots.new.entries) spots.new.entries }
+    ensures before { IfOk result (λ time. AreBefore time (timed_of spots.new.entries)) }
     ensures fits { IfOk result (λ time. time + 1 < 2 ^ 64) }
-    ensures err { OnErr result (by_time.new.entries ≡ by_time.old.entries) }
+    ensures err { OnErr result (timed_of spots.new.entries ≡ timed_of spots.old.entries) }
 {
     if next < u64::MAX {
         return Ok(next);
     }
-    let timed = timed_anew(alloc, by_time)?;
-    *by_time = timed.by_time;
+    let queued = by_time(alloc, spots)?;
+    let timed = timed_anew(alloc, &queued)?;
     *spots = timed.spots;
     Ok(timed.next)
 }
 
-/// Takes the members from their times and spots.
+/// Takes the members from their spots.
 pub(crate) fn withdraw(
-    by_time: &mut BTreeMap<u64, Op>,
     spots: &mut BTreeMap<Spot, Op>,
     waiting: &mut [u64; 5],
     members: &[(Spot, Op)],
 )
-    requires indexed { IsIndexed by_time.old.entries spots.old.entries }
-    requires counted { AreCounted waiting.old (values_of by_time.old.entries) }
-    requires there { AreThere by_time.old.entries members.now }
+    requires indexed { IsIndexed (timed_of spots.old.entries) spots.old.entries }
+    requires counted { AreCounted waiting.old (ops_at spots.old.entries) }
+    requires there { AreThere (timed_of spots.old.entries) members.now }
     requires apart { AreApart (values_of members.now) }
-    ensures queued { values_of by_time.new.entries ≡ without (values_of members.now) (values_of by_time.old.entries) }
-    ensures before { (time : ℕ) → AreBefore time by_time.old.entries → AreBefore time by_time.new.entries }
-    ensures indexed { IsIndexed by_time.new.entries spots.new.entries }
-    ensures counted { AreCounted waiting.new (values_of by_time.new.entries) }
+    ensures queued { ops_at spots.new.entries ≡ without (values_of members.now) (ops_at spots.old.entries) }
+    ensures before { (time : ℕ) → AreBefore time (timed_of spots.old.entries)
+        → AreBefore time (timed_of spots.new.entries) }
+    ensures indexed { IsIndexed (timed_of spots.new.entries) spots.new.entries }
+    ensures counted { AreCounted waiting.new (ops_at spots.new.entries) }
 {
     for (spot, op) in members {
-        withdraw_one(by_time, spots, waiting, spot.time, op);
+        withdraw_one(spots, waiting, spot.time, op);
     }
 }
 
-fn withdraw_one(
-    by_time: &mut BTreeMap<u64, Op>,
-    spots: &mut BTreeMap<Spot, Op>,
-    waiting: &mut [u64; 5],
-    time: u64,
-    op: &Op,
-)
-    requires indexed { IsIndexed by_time.old.entries spots.old.entries }
-    requires counted { AreCounted waiting.old (values_of by_time.old.entries) }
-    requires there { at_time by_time.old.entries time ≡ Some op.now }
-    ensures queued { values_of by_time.new.entries ≡ filter (λ o. not (o.ticket == op.now.ticket))
-        (values_of by_time.old.entries) }
-    ensures times { (t : ℕ)
-        → at_time by_time.new.entries t ≡ cond (is_at (nat_cmp time) t) None (at_time by_time.old.entries t) }
-    ensures before { (t : ℕ) → AreBefore t by_time.old.entries → AreBefore t by_time.new.entries }
-    ensures indexed { IsIndexed by_time.new.entries spots.new.entries }
-    ensures counted { AreCounted waiting.new (values_of by_time.new.entries) }
+fn withdraw_one(spots: &mut BTreeMap<Spot, Op>, waiting: &mut [u64; 5], time: u64, op: &Op)
+    requires indexed { IsIndexed (timed_of spots.old.entries) spots.old.entries }
+    requires counted { AreCounted waiting.old (ops_at spots.old.entries) }
+    requires there { at_time (timed_of spots.old.entries) time ≡ Some op.now }
+    ensures queued { ops_at spots.new.entries ≡ filter (λ o. not (o.ticket == op.now.ticket))
+        (ops_at spots.old.entries) }
+    ensures times { (t : ℕ) → at_time (timed_of spots.new.entries) t
+        ≡ cond (is_at (nat_cmp time) t) None (at_time (timed_of spots.old.entries) t) }
+    ensures before { (t : ℕ) → AreBefore t (timed_of spots.old.entries) → AreBefore t (timed_of spots.new.entries) }
+    ensures indexed { IsIndexed (timed_of spots.new.entries) spots.new.entries }
+    ensures counted { AreCounted waiting.new (ops_at spots.new.entries) }
 {
-    by_time.remove(&time);
     unshelve(spots, time, op);
     waiting[class_number(op.prio) as usize] -= 1;
 }

@@ -2,13 +2,13 @@ ghost use Rattle.std.specs.Prelude.{◌≡◌, ◌+◌, ◌-◌, ◌^◌, ◌<�
 ghost use Rattle.std.specs.Map.{values_of};
 ghost use Rattle.zio_vqueue.specs.Classes.{class_number, maximum_of};
 ghost use Rattle.zio_vqueue.specs.Groups.{IsNextGroup, IsRun, IsSpanOf, after_take};
-ghost use Rattle.zio_vqueue.specs.Queues.{AreApart, FitsDevice, active_of, eligible, is_queued};
+ghost use Rattle.zio_vqueue.specs.Queues.{FitsDevice, active_of, eligible, is_queued};
 
 use crate::class::class_number;
 use crate::gather::{end_of, gather};
 use crate::index::{eligible, enter, first_served, next_time, withdraw};
 use crate::op::{Group, Op};
-use crate::spots::{Spot, TICKETS, is_at_rank};
+use crate::spots::Spot;
 use std::alloc::Global;
 use std::collections::BTreeMap;
 use std::marker::Model;
@@ -18,9 +18,7 @@ use zio_types::{List, NoMemory, Prio};
 #[derive(Drop)]
 pub struct VQueue {
     alloc: Global,
-    /// The queued operations, each at its time of putting.
-    by_time: BTreeMap<u64, Op>,
-    /// The same at each of their spots.
+    /// The queued operations, each at its one or two spots.
     spots: BTreeMap<Spot, Op>,
     /// How many of them are in each class.
     waiting: [u64; 5],
@@ -35,12 +33,11 @@ impl Model for VQueue {
 
     ghost Value = { Queue };
 
-    ghost use Rattle.std.specs.Map.{values_of};
-    ghost use Rattle.zio_vqueue.specs.Spots.{IsKept};
+    ghost use Rattle.zio_vqueue.specs.Spots.{IsKept, ops_at};
 
-    ghost view = { λ q. record { queued = values_of q.by_time.entries; active = q.active; last = q.last } };
+    ghost view = { λ q. record { queued = ops_at q.spots.entries; active = q.active; last = q.last } };
 
-    ghost invariant = { λ q. IsKept q.by_time.entries q.spots.entries q.waiting q.next q.active };
+    ghost invariant = { λ q. IsKept q.spots.entries q.waiting q.next q.active };
 }
 
 impl VQueue {
@@ -52,7 +49,6 @@ impl VQueue {
     {
         VQueue {
             alloc,
-            by_time: BTreeMap::new(alloc),
             spots: BTreeMap::new(alloc),
             waiting: [0; 5],
             next: 0,
@@ -68,9 +64,9 @@ impl VQueue {
         ensures ok { OnOk result (self.new ≡ record self.old { queued = self.old.queued ++ op ∷ [] }) }
         ensures err { OnErr result (self.new ≡ self.old) }
     {
-        let time = next_time(self.alloc, &mut self.by_time, &mut self.spots, self.next)?;
+        let time = next_time(self.alloc, &mut self.spots, self.next)?;
         self.next = time;
-        enter(&mut self.by_time, &mut self.spots, time, op)?;
+        enter(&mut self.spots, time, op)?;
         self.waiting[class_number(op.prio) as usize] += 1;
         self.next = time + 1;
         Ok(())
@@ -92,12 +88,7 @@ impl VQueue {
         };
         let members = gather(self.alloc, &self.spots, spot.time, &first)?;
         let group = group_of(self.alloc, prio, &members)?;
-        withdraw(
-            &mut self.by_time,
-            &mut self.spots,
-            &mut self.waiting,
-            &members,
-        );
+        withdraw(&mut self.spots, &mut self.waiting, &members);
         self.active[class_number(prio) as usize] += 1;
         self.last = group.at + group.len;
         Ok(Some(group))
@@ -126,14 +117,6 @@ impl VQueue {
         ensures most { result ≤ maximum_of prio }
     {
         self.active[class_number(prio) as usize]
-    }
-
-    /// Whether an operation with this ticket is queued: no two have one ticket.
-    pub fn has(&self, ticket: u64) -> bool
-        ensures queued { result ≡ is_queued ticket self.now.queued }
-        ensures apart { AreApart self.now.queued }
-    {
-        is_at_rank(&self.spots, TICKETS, ticket)
     }
 }
 

@@ -1,9 +1,9 @@
-ghost use Rattle.std.specs.Prelude.{◌≡◌, ◌<◌, true, false, ◌&&◌, ◌||◌, ◌==◌, cond, not, None, Some, OnOk, OnErr, filter, is_some, slice_get};
+ghost use Rattle.std.specs.Prelude.{◌≡◌, ◌<◌, true, false, ◌&&◌, ◌||◌, ◌==◌, cond, not, None, Some, OnOk, OnErr};
 ghost use Rattle.std.specs.List.Sorted.{IsStrictlySortedBy};
 ghost use Rattle.std.specs.Map.{keys_of};
 ghost use Rattle.zio_vqueue.specs.Classes.{class_number, is_sync};
 ghost use Rattle.zio_vqueue.specs.Queues.{turn_in};
-ghost use Rattle.zio_vqueue.specs.Spots.{at_spot, class_spot, first_on, is_at_rank, is_sought_at, is_spot, join_shelf, join_spot, spot_cmp, ticket_spot};
+ghost use Rattle.zio_vqueue.specs.Spots.{at_spot, class_spot, first_on, is_sought_at, is_spot, join_shelf, join_spot, spot_cmp};
 ghost use Rattle.zio_vqueue.specs.declared.spots.Spot.{Spot as Place};
 
 use crate::class::{class_number, is_sync};
@@ -11,10 +11,8 @@ use crate::op::Op;
 use std::collections::BTreeMap;
 use zio_types::NoMemory;
 
-/// The shelf of tickets. Those before are the classes', and then those of operations that may be joined.
-pub(crate) const TICKETS: u8 = 9;
-
-/// Where an operation is sought: on a shelf, by a rank that orders it there, and by its time of putting.
+/// Where an operation is sought: on a shelf, by a rank that orders it there, and by its time of putting. The classes'
+/// shelves come first, and then those of operations that may be joined.
 #[derive(Clone, Copy, PartialEq, Eq, PartialOrd, Ord)]
 pub(crate) struct Spot {
     pub shelf: u8,
@@ -48,16 +46,6 @@ fn class_spot(time: u64, op: &Op) -> Spot
     Spot {
         shelf: class_number(op.prio),
         rank: turn(op),
-        time,
-    }
-}
-
-fn ticket_spot(time: u64, op: &Op) -> Spot
-    ensures { result ≡ ticket_spot time op.now }
-{
-    Spot {
-        shelf: TICKETS,
-        rank: op.ticket,
         time,
     }
 }
@@ -99,7 +87,6 @@ pub(crate) fn shelve(spots: &mut BTreeMap<Spot, Op>, time: u64, op: Op) -> Resul
     ensures ordered { IsStrictlySortedBy spot_cmp (keys_of spots.new.entries) }
 {
     place(spots, class_spot(time, &op), op)?;
-    place(spots, ticket_spot(time, &op), op)?;
     if !op.flags.dont_aggregate {
         place(spots, join_spot(time, &op), op)?;
     }
@@ -113,7 +100,6 @@ pub(crate) fn unshelve(spots: &mut BTreeMap<Spot, Op>, time: u64, op: &Op)
     ensures ordered { IsStrictlySortedBy spot_cmp (keys_of spots.new.entries) }
 {
     clear(spots, class_spot(time, op));
-    clear(spots, ticket_spot(time, op));
     if !op.flags.dont_aggregate {
         clear(spots, join_spot(time, op));
     }
@@ -121,7 +107,7 @@ pub(crate) fn unshelve(spots: &mut BTreeMap<Spot, Op>, time: u64, op: &Op)
 
 /// The first operation on a shelf from a rank on.
 pub(crate) fn first_from(spots: &BTreeMap<Spot, Op>, shelf: u8, rank: u64) -> Option<(Spot, Op)>
-    requires { shelf < 10 }
+    requires { shelf < 9 }
     ensures { result ≡ first_on shelf rank spots.now.entries }
 {
     let start = Spot {
@@ -137,17 +123,5 @@ pub(crate) fn first_from(spots: &BTreeMap<Spot, Op>, shelf: u8, rank: u64) -> Op
     match spots.range(start..end).next() {
         Some((spot, op)) => Some((*spot, *op)),
         None => None,
-    }
-}
-
-/// Whether an operation stands on a shelf at a rank.
-pub(crate) fn is_at_rank(spots: &BTreeMap<Spot, Op>, shelf: u8, rank: u64) -> bool
-    requires shelf { shelf < 10 }
-    requires ordered { IsStrictlySortedBy spot_cmp (keys_of spots.now.entries) }
-    ensures { result ≡ is_some (slice_get (filter (is_at_rank shelf rank) spots.now.entries) 0) }
-{
-    match first_from(spots, shelf, rank) {
-        Some((spot, _)) => spot.rank == rank,
-        None => false,
     }
 }

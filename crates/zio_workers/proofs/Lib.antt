@@ -1,1 +1,2 @@
+pub mod NodesCross
 mod WantedLemmas

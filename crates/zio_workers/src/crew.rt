@@ -2,8 +2,8 @@
 
 ghost use Rattle.std.specs.Prelude.{◌≡◌, IfSome, None};
 ghost use denote.Param.Send.{IsSync};
-ghost use Rattle.zio_nodes.specs.Aheads.{FitsBox};
-ghost use Rattle.zio_nodes.specs.Nodes.{IsBoxOver};
+ghost use Rattle.zio_nodes.specs.Aheads.{FitsNode};
+ghost use Rattle.zio_nodes.specs.Nodes.{IsNodeOver};
 ghost use Rattle.zio_turns.specs.Helping.{FitsAt};
 ghost use Rattle.zio_turns.specs.Slabs.{AreAll};
 
@@ -51,10 +51,10 @@ impl<'g, Rt: Threads + Wait + Sync> Helper<NodeBox> for Crew<'g, Rt> {
             wanted,
             workers,
             &|_, one: &mut Wanted<Ahead>|
-                requires over { AreAll (IsBoxOver tops.now) turns.now.nodes }
+                requires over { AreAll (IsNodeOver tops.now) turns.now.nodes }
                 requires blank { one.old.ahead ≡ None }
                 ensures key { one.new.key ≡ one.old.key }
-                ensures fits { IfSome one.new.ahead (FitsAt FitsBox turns.entry.now.nodes one.new.key) }
+                ensures fits { IfSome one.new.ahead (FitsAt FitsNode turns.entry.now.nodes one.new.key) }
             { reckon_one(alloc, tops, turns, one) },
         );
     }
@@ -62,10 +62,10 @@ impl<'g, Rt: Threads + Wait + Sync> Helper<NodeBox> for Crew<'g, Rt> {
 
 /// Reckons what the stage of one node needs.
 fn reckon_one(alloc: Global, tops: &[Top], turns: &Turns<NodeBox>, one: &mut Wanted<Ahead>)
-    requires over { AreAll (IsBoxOver tops.now) turns.now.nodes }
+    requires over { AreAll (IsNodeOver tops.now) turns.now.nodes }
     requires blank { one.old.ahead ≡ None }
     ensures key { one.new.key ≡ one.old.key }
-    ensures fits { IfSome one.new.ahead (FitsAt FitsBox turns.now.nodes one.new.key) }
+    ensures fits { IfSome one.new.ahead (FitsAt FitsNode turns.now.nodes one.new.key) }
 {
     if let Some(node) = turns.node(one.key) {
         one.ahead = node.ahead(alloc, tops);

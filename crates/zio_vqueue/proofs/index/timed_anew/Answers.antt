@@ -1,5 +1,9 @@
-use Rattle.zio_vqueue.proofs.TimedLemmas.{next_apart, next_fits, timed_step, timed_whole}
+use Rattle.std.proofs.Common.{◌∙◌}
+use Rattle.zio_vqueue.proofs.TimedLemmas.{next_apart, next_fits, timed_none, timed_step, timed_whole}
 use Rattle.zio_vqueue.proofs.index.timed_anew.Goals as goal
+
+pub loop-op-init : goal.loop-op-init
+loop-op-init c = timed_none _ _ _ c.new-spots.ensures.empty (c.into_iter-op-iterator.ensures.into_iter_gives ∙ c.values-op-items.ensures.rest)
 
 pub enter-requires-clause-indexed : goal.enter-requires-clause-indexed
 enter-requires-clause-indexed c = c.loop-op.invariant.indexed

@@ -2,6 +2,7 @@ use Rattle.std.proofs.Common.{false}
 use Rattle.zio_types.specs.declared.request.Prio.TheVariants.{SyncRead}
 use Rattle.zio_vqueue.specs.declared.op.Op.{Op}
 use Rattle.zio_vqueue.specs.declared.spots.Spot.{Spot}
+use Rattle.zio_vqueue.specs.Spots.{timed_of}
 use Rattle.zio_vqueue.proofs.IndexLemmas.{apart_after, there_after, there_at, without_after, without_done}
 use Rattle.zio_vqueue.proofs.index.withdraw.Goals as goal
 
@@ -22,7 +23,7 @@ pub loop-spot-preserved : goal.loop-spot-preserved
 loop-spot-preserved c = record {
   indexed = c.withdraw_one.ensures.indexed;
   counted = c.withdraw_one.ensures.counted;
-  there = there_after _ c.withdraw_one.new.by_time.entries c.args.members.now c.loop-spot.spot-index _ c.loop-spot-test.true c.loop-spot.invariant.there c.loop-spot.invariant.apart c.withdraw_one.ensures.times;
+  there = there_after _ (timed_of c.withdraw_one.new.spots.entries) c.args.members.now c.loop-spot.spot-index _ c.loop-spot-test.true c.loop-spot.invariant.there c.loop-spot.invariant.apart c.withdraw_one.ensures.times;
   apart = apart_after c.args.members.now c.loop-spot.spot-index none_such c.loop-spot-test.true c.loop-spot.invariant.apart;
   queued = without_after c.args.members.now c.loop-spot.spot-index _ _ _ _ c.loop-spot-test.true c.withdraw_one.ensures.queued c.loop-spot.invariant.queued;
   before = λ time h. c.withdraw_one.ensures.before time (c.loop-spot.invariant.before time h);

@@ -1,12 +1,13 @@
-use Rattle.std.proofs.Common.{ap, false, refl, subst, sym, ◌∙◌, inl, inr}
+use Rattle.std.proofs.Common.{ap, false, refl, subst, sym, true, ◌∙◌, inl, inr}
 use Rattle.zio_masks.specs.declared.stage.Stage.{Stage}
 use Rattle.zio_nodes.specs.CopiesAts.{ReadStands}
 use Rattle.zio_nodes.specs.Told.{is_told}
 use Rattle.zio_nodes.proofs.BoundLemmas.{vdev_counts}
 use Rattle.zio_nodes.proofs.CopiesLemmas.{copies_go, copies_lead}
 use Rattle.zio_nodes.proofs.StageLemmas.{read_done}
-use Rattle.zio_masks.specs.declared.stage.Stage.TheVariants.{VdevIoDone}
+use Rattle.zio_masks.specs.declared.stage.Stage.TheVariants.{VdevIoDone, VdevIoStart}
 use Rattle.zio_nodes.proofs.StageAllows.{goes_back, stalls_so}
+use Rattle.zio_nodes.specs.declared.node.Node.{Node}
 use Rattle.zio_nodes.specs.declared.node.Node.TheVariants.{Copies}
 use Rattle.zio_types.specs.declared.request.Phase.TheVariants.{Done}
 use Rattle.zio_types.specs.declared.request.ChildKind.TheVariants.{Vdev}
@@ -32,7 +33,10 @@ returns-in-On-clause-over c = record {
 }
 
 pub returns-in-More-clause-stages : goal.returns-in-More-clause-stages
-returns-in-More-clause-stages c = inr (inl (goes_back (Copies c.args.self.now) _ c.requires.stage refl, refl))
+returns-in-More-clause-stages c =
+    let at = c.args.self.now in
+    let after : Node = Copies (record { node = at.node; stage = VdevIoStart; is_due = true }) in
+    inr (inl (goes_back c.args.tops.now (Copies at) after c.requires.stage (c.vdev_io_done.ensures.more c.in-More.is), refl))
 
 pub returns-in-On-clause-stages : goal.returns-in-On-clause-stages
 returns-in-On-clause-stages c = inl (copies_lead c.args.self.now VdevIoDone c.next-self.result c.requires.stage c.next-self.ensures)

@@ -1,12 +1,8 @@
-use Rattle.std.proofs.Common.{subst, sym}
-use Rattle.std.proofs.lemmas.Option.{IfSome_then}
-use Rattle.zio_nodes.specs.Aheads.{FitsNode}
-use Rattle.zio_nodes.specs.Nodes.{IsNodeOver}
-use Rattle.zio_nodes.specs.declared.node.Node.{Node}
+use Rattle.std.proofs.Common.{◌∙◌, ap, subst, sym}
+use Rattle.zio_nodes.specs.Nodes.{IsNodeOver, node_in}
 use Rattle.zio_nodes.proofs.node_box.NodeBoxStaged.ahead.Goals as goal
 
-pub ahead-requires : goal.ahead-requires
-ahead-requires c = (c.args._tops.now, subst (IsNodeOver c.args._tops.now) (sym c.deref.ensures) c.requires.over)
-
-pub returns : goal.returns
-returns c = record { fits = IfSome_then c.ahead.result c.ahead.ensures (λ ahead fits. subst (λ (n : Node). FitsNode n ahead) c.deref.ensures fits) }
+pub ahead-requires-in-Other : goal.ahead-requires-in-Other
+ahead-requires-in-Other c =
+    let same = sym c.self.view_is ∙ ap node_in c.in-Other.is ∙ sym c.deref.ensures in
+    (c.args._tops.now, subst (IsNodeOver c.args._tops.now) same c.requires.over)

@@ -1,78 +1,53 @@
-use Rattle.std.proofs.Common.{◌≡◌, subst, sym}
-use Rattle.std.specs.Box.{with_value}
-use Rattle.zio_staged.specs.Moves.{moved as moved_to}
-use Rattle.zio_staged.specs.Stages.{EachIn, IsMove, Lessens, MayGoOn}
-use Rattle.zio_nodes.specs.BoxMoves.{unboxed}
-use Rattle.zio_nodes.specs.Nodes.{IsNodeDue, IsNodeOver, IsTreeOver, MovesWith, StaysWith, gave_of, left_of, moved, nodes}
-use Rattle.zio_nodes.specs.SealedMoves.{Move}
-use Rattle.zio_nodes.specs.StageMoves.{IsStageMove}
-use Rattle.zio_nodes.specs.Stalls.{LeavesNone}
+use Rattle.std.proofs.Common.{[], ◌∙◌, ap, refl, subst, sym}
+use Rattle.zio_nodes.specs.Nodes.{StaysBare, node_in}
 use Rattle.zio_nodes.specs.declared.node.Node.{Node}
-use Rattle.zio_nodes.specs.declared.node_box.NodeBox.{NodeBox}
-use Rattle.zio_nodes.proofs.Refused.{on_err}
-use Rattle.zio_nodes.proofs.Boxes.{each_boxed, goes_boxed, lessens_boxed, may_boxed, moves_boxed, now_unboxed}
+use Rattle.zio_nodes.specs.declared.node.Node.TheVariants.{Leaf}
+use Rattle.zio_nodes.specs.declared.node_box.NodeBox.TheInside.{Inside}
+use Rattle.zio_nodes.proofs.KeptNodes.{each_kept, moves_kept}
+use Rattle.zio_nodes.proofs.NodeLemmas.{bare_move}
+use Rattle.zio_nodes.proofs.Refused.{on_err, stays_same}
 use Rattle.zio_nodes.proofs.node_box.NodeBoxStaged.run_stage.Goals as goal
+use Rattle.zio_nodes.proofs.node_box.NodeBoxStaged.run_stage.Goals.{in-Leaf+in_ok-turn-in-Leaf, in-Other+in_ok-turn-in-Other}
+
+pub returns-in_err-turn-in-Leaf-clause-refused : goal.returns-in_err-turn-in-Leaf-clause-refused
+returns-in_err-turn-in-Leaf-clause-refused g c =
+    let s = c.args.services.now in
+    let tops = g.S.Services.tops s in
+    let x : Node = c.args.self.now in
+    let was = sym c.self.view_is ∙ ap node_in c.in-Leaf.is in
+    let same = ap Leaf c.in_err-turn-in-Leaf.ensures.same ∙ sym was in
+    on_err c.from_residual.result ([], g.met.S.Services.made_none s, stays_same tops x (Leaf c.step.new.self) same)
 
 pub returns-clause-moves : goal.returns-clause-moves
 returns-clause-moves g c =
     let s = c.args.services.now in
     let tops = g.S.Services.tops s in
-    let x = c.args.self.now in
-    let node = c.run_stage.new.self in
-    let after : NodeBox = record { node = with_value x.node node } in
-    let move : Move NodeBox = moved_to after c.boxed.result in
-    let m : MovesWith g.S.Services.made tops s c.run_stage.new.services x.node.value (moved node c.in_ok-turn.turn) =
-    subst (λ (n : Node). MovesWith g.S.Services.made tops s c.run_stage.new.services n (moved node c.in_ok-turn.turn))
-    c.deref_mut.ensures.value c.in_ok-turn.ensures.moves in (
-      m.calls,
-      m.were_made,
-      λ t st now. moves_boxed t x st m.calls move
-          (subst (λ (i : Move Node). IsMove {N = Node} nodes gave_of t x.node.value st m.calls i) (sym (c.boxed.ensures after))
-          (m.moves t st (now_unboxed tops t x st now))),
-    )
+    let x : Node = c.args.self.now in
+    let seen : Node = node_in c.match-self.self-inside.kept in
+    elim c.match-self.branch [
+      | in-Leaf+in_ok-turn-in-Leaf w ↦
+          let was = sym c.self.view_is ∙ ap node_in w.in-Leaf.is in
+          let new : Node = Leaf w.step.new.self in
+          moves_kept g.S.Services.made tops s s c.match-self.services x (Leaf w.in-Leaf.at) seen new c.match-self.turn w.in_ok-turn-in-Leaf.turn
+          c.staged.result was (ap (λ (i : Inside). node_in i.kept) w.self-inside-is) w.turn-is w.services-is c.staged.ensures
+          (bare_move g.S.Services.made tops tops s (Leaf w.in-Leaf.at) _ refl (g.met.S.Services.made_none s) (w.in_ok-turn-in-Leaf.ensures.moves tops))
+      | in-Other+in_ok-turn-in-Other w ↦
+          let was = sym c.self.view_is ∙ ap node_in w.in-Other.is ∙ sym w.deref_mut.ensures.value in
+          moves_kept g.S.Services.made tops s w.run_stage.new.services c.match-self.services x w.deref_mut.result.now seen w.run_stage.new.self
+          c.match-self.turn w.in_ok-turn-in-Other.turn c.staged.result was (ap (λ (i : Inside). node_in i.kept) w.self-inside-is) w.turn-is
+          w.services-is c.staged.ensures w.in_ok-turn-in-Other.ensures.moves
+    ]
 
 pub returns-clause-over : goal.returns-clause-over
 returns-clause-over g c =
-    let tops = g.S.Services.tops c.args.services.now in
-    let after : NodeBox = record { node = with_value c.args.self.now.node c.run_stage.new.self } in
-    each_boxed tops (moved_to after c.boxed.result)
-    (subst (λ (i : Move Node). EachIn (IsNodeOver tops) (IsTreeOver tops) i) (sym (c.boxed.ensures after)) c.in_ok-turn.ensures.over)
-
-pub returns-clause-may : goal.returns-clause-may
-returns-clause-may g c =
-    let after : NodeBox = record { node = with_value c.args.self.now.node c.run_stage.new.self } in
-    may_boxed (moved_to after c.boxed.result)
-    (subst (λ (i : Move Node). MayGoOn IsNodeDue i) (sym (c.boxed.ensures after)) c.in_ok-turn.ensures.may)
-
-pub returns-clause-left : goal.returns-clause-left
-returns-clause-left g c =
-    let x = c.args.self.now in
-    let node = c.run_stage.new.self in
-    let after : NodeBox = record { node = with_value x.node node } in
-    lessens_boxed x (moved_to after c.boxed.result)
-    (subst (λ (i : Move Node). Lessens left_of x.node.value i) (sym (c.boxed.ensures after))
-    (subst (λ (n : Node). Lessens left_of n (moved node c.in_ok-turn.turn)) c.deref_mut.ensures.value c.in_ok-turn.ensures.left))
-
-pub returns-clause-stages : goal.returns-clause-stages
-returns-clause-stages g c =
-    let x = c.args.self.now in
-    let node = c.run_stage.new.self in
-    let after : NodeBox = record { node = with_value x.node node } in
-    let same : unboxed (moved_to after c.boxed.result) ≡ moved node c.in_ok-turn.turn = c.boxed.ensures after in
-    record {
-      leads = subst (λ (i : Move Node). IsStageMove x.node.value i) (sym same)
-          (subst (λ (n : Node). IsStageMove n (moved node c.in_ok-turn.turn)) c.deref_mut.ensures.value c.in_ok-turn.ensures.stages);
-      leaves = subst (λ (i : Move Node). LeavesNone x.node.value i) (sym same)
-          (subst (λ (n : Node). LeavesNone n (moved node c.in_ok-turn.turn)) c.deref_mut.ensures.value c.in_ok-turn.ensures.leaves);
-    }
-
-pub returns-in_err-turn-clause-refused : goal.returns-in_err-turn-clause-refused
-returns-in_err-turn-clause-refused g c =
     let s = c.args.services.now in
     let tops = g.S.Services.tops s in
-    let x = c.args.self.now in
-    let node = c.run_stage.new.self in
-    let m : StaysWith g.S.Services.made tops s c.run_stage.new.services x.node.value node =
-    subst (λ (n : Node). StaysWith g.S.Services.made tops s c.run_stage.new.services n node) c.deref_mut.ensures.value c.in_err-turn.ensures.refused in
-    on_err c.from_residual.result
-    (m.calls, m.were_made, λ t st now. goes_boxed t x (record { node = with_value x.node node }) st m.calls (m.goes t st (now_unboxed tops t x st now)))
+    let seen : Node = node_in c.match-self.self-inside.kept in
+    elim c.match-self.branch [
+      | in-Leaf+in_ok-turn-in-Leaf w ↦
+          each_kept tops seen (Leaf w.step.new.self) c.match-self.turn w.in_ok-turn-in-Leaf.turn c.staged.result
+          (ap (λ (i : Inside). node_in i.kept) w.self-inside-is) w.turn-is c.staged.ensures (w.in_ok-turn-in-Leaf.ensures.over tops)
+      | in-Other+in_ok-turn-in-Other w ↦
+          each_kept tops seen w.run_stage.new.self c.match-self.turn w.in_ok-turn-in-Other.turn c.staged.result
+          (ap (λ (i : Inside). node_in i.kept) w.self-inside-is) w.turn-is c.staged.ensures w.in_ok-turn-in-Other.ensures.over
+    ]

@@ -7,11 +7,12 @@ use Rattle.zio_nodes.specs.Told.{is_told}
 use Rattle.zio_nodes.proofs.BoundLemmas.{vdev_counts}
 use Rattle.zio_nodes.proofs.PartLemmas.{part_goes}
 use Rattle.zio_nodes.proofs.StageLemmas.{write_done}
-use Rattle.zio_masks.specs.declared.stage.Stage.TheVariants.{VdevIoDone}
+use Rattle.zio_masks.specs.declared.stage.Stage.TheVariants.{VdevIoDone, VdevIoStart}
 use Rattle.zio_nodes.proofs.StageLeads.{next_of}
 use Rattle.zio_masks.specs.declared.pipeline.TheConstants.{WRITE}
 use Rattle.zio_masks.specs.Stages.{has}
 use Rattle.zio_nodes.proofs.StageAllows.{goes_back, stalls_so}
+use Rattle.zio_nodes.specs.declared.node.Node.{Node}
 use Rattle.zio_nodes.specs.declared.node.Node.TheVariants.{Part}
 use Rattle.zio_types.specs.declared.request.Phase.TheVariants.{Done}
 use Rattle.zio_types.specs.declared.request.ChildKind.TheVariants.{Vdev}
@@ -74,7 +75,10 @@ returns-in-On-clause-left c =
     omega (arith, now, was, ap part_stages on, ap part_stages c.requires.stage)
 
 pub returns-in-More-clause-stages : goal.returns-in-More-clause-stages
-returns-in-More-clause-stages c = inr (inl (goes_back (Part c.args.self.now) _ c.requires.stage refl, refl))
+returns-in-More-clause-stages c =
+    let at = c.args.self.now in
+    let after : Node = Part (record { node = at.node; stage = VdevIoStart; is_due = true }) in
+    inr (inl (goes_back c.args.tops.now (Part at) after c.requires.stage (c.vdev_io_done.ensures.more c.in-More.is), refl))
 
 pub returns-in-On-clause-stages : goal.returns-in-On-clause-stages
 returns-in-On-clause-stages c =

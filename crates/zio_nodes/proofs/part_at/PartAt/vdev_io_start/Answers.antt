@@ -102,11 +102,6 @@ pub returns-in-Ok-None-clause-stages : goal.returns-in-Ok-None-clause-stages
 returns-in-Ok-None-clause-stages c =
     inl (next_of WRITE (has WRITE) c.args.self.now.stage VdevIoStart c.next-self.result c.requires.stage (λ s lt. refl) c.next-self.ensures)
 
-pub returns-in_err-room-clause-refused : goal.returns-in_err-room-clause-refused
-returns-in_err-room-clause-refused c =
-    let at = c.args.self.now in
-    on_err c.from_residual.result (λ t st now. part_goes t st at at [] (does_nothing t st _ now.is) refl)
-
 pub returns-in-Ok-Some-clause-stages : goal.returns-in-Ok-Some-clause-stages
 returns-in-Ok-Some-clause-stages c = let g = grows_so (Part c.args.self.now) VdevIoStart Vdev c.requires.stage refl (λ e. cc) (λ e. cc) in (refl, g.0, g.1, g.2)
 

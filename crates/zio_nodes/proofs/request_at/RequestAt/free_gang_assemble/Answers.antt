@@ -7,15 +7,16 @@ use Rattle.zio_exchange.specs.declared.waiting.UnfinishedRequest.{UnfinishedRequ
 use Rattle.zio_staged.specs.Stages.{told_cost}
 use Rattle.zio_frames.specs.Frames.{fresh_stack}
 use Rattle.zio_stages.specs.HeadsNodes.{IsHeadsNode}
-use Rattle.zio_stages.specs.RequestFrees.{IsFreeingWith}
+use Rattle.zio_stages.specs.RequestFrees.{HasBegun, IsFreeWith, IsFreeingWith}
 use Rattle.zio_stages.specs.RequestKinds.{is_gang_tree}
 use Rattle.zio_stages.specs.RequestNodes.{IsRequestNode}
 use Rattle.zio_stages.specs.RequestReads.{HandsWalk, IsWalkOver, IsWholeWalk}
 use Rattle.zio_stages.specs.declared.heads_node.HeadsNode.{HeadsNode}
+use Rattle.zio_stages.specs.declared.request_node.RequestNode.{RequestNode}
 use Rattle.zio_stages.proofs.BehindLemmas.{does_nothing}
 use Rattle.zio_stages.specs.declared.own_free.FreeWalk.TheVariants.{Due, Out}
 use Rattle.zio_nodes.specs.Bounds.{walk_max}
-use Rattle.zio_nodes.specs.OwnAts.{IsFreeAtStage}
+use Rattle.zio_nodes.specs.OwnAts.{HasKeptAll, IsFreeAtStage}
 use Rattle.zio_nodes.specs.OwnBounds.{free_stages}
 use Rattle.zio_nodes.specs.declared.node.Node.TheVariants.{Heads, Request}
 use Rattle.zio_nodes.specs.Told.{is_told}
@@ -23,7 +24,7 @@ use Rattle.zio_nodes.proofs.OwnLefts.{free_gave_same, free_less, none_freed}
 use Rattle.zio_nodes.proofs.OwnOver.{free_over, free_stands, is_free, not_start}
 use Rattle.zio_nodes.proofs.OwnStages.{free_assembled}
 use Rattle.zio_nodes.proofs.OwnBare.{grows_bare, next_same, refused_bare}
-use Rattle.zio_nodes.proofs.FreeLemmas.{kept_all, may_give, none_given, none_yet, not_found, stage_less_same, walk_less}
+use Rattle.zio_nodes.proofs.FreeLemmas.{free_map, kept_all, may_give, none_given, none_yet, not_found, stage_less_same, walk_due_begun, walk_less}
 use Rattle.zio_masks.specs.declared.pipeline.TheConstants.{FREE}
 use Rattle.zio_types.specs.declared.request.Kind.TheVariants.{Free as FreeKind}
 use Rattle.zio_nodes.proofs.StageLeads.{gang_leads, gang_of, gang_of_free, up_to_kept}
@@ -101,61 +102,10 @@ returns-in-Ok-Some-clause-left c =
       c.new-child.ensures.left ∙ ap walk_max whole.1,
     )
 
-pub returns-in-Ok-None-clause-moves : goal.returns-in-Ok-None-clause-moves
-returns-in-Ok-None-clause-moves c = λ tops.
-    let at = c.args.self.now in
-    let same = c.gang_assemble_free.ensures.still (c.in-Ok-None.is ∙ ap (λ (o : Option HeadsNode). Ok o) c.in-Ok-None.field-0-is) in
-    next_same tops at c.gang_assemble_free.new.self c.next-self.result at.is_due same
-    (ap is_told (free_assembled c.with_gang.result c.next-self.result c.with_gang.ensures.stages c.next-self.ensures) ∙ sym (ap is_told c.requires.stage))
-
-pub returns-in-Ok-None-clause-over : goal.returns-in-Ok-None-clause-over
-returns-in-Ok-None-clause-over c = λ tops h.
-    let at = c.args.self.now in
-    let r = at.node in
-    let work = is_free r.waiting.request.work c.requires.kind in
-    let behind = not_start at.stage GangAssemble c.requires.stage (λ e. cc) in
-    let new = c.gang_assemble_free.new.self in
-    let now = free_stands tops at GangAssemble work h c.requires.stage (λ e. cc) in
-    let none = c.in-Ok-None.is ∙ ap (λ (o : Option HeadsNode). Ok o) c.in-Ok-None.field-0-is in
-    free_over tops at new c.next-self.result at.is_due work h behind c.gang_assemble_free.ensures.rest (c.gang_assemble_free.ensures.over tops h.over.own)
-    (subst (λ (s : Stage). IsFreeAtStage s at.is_due new.own new.waiting.block)
-    (sym (free_assembled c.with_gang.result c.next-self.result c.with_gang.ensures.stages c.next-self.ensures)) (
-      none_yet new.waiting.block new.own (kept_all _ new.own c.gang_assemble_free.ensures.frees (c.gang_assemble_free.ensures.given ∙ none_given r.own now.0)),
-      c.gang_assemble_free.ensures.begun none now.1,
-      ap (λ (x : UnfinishedRequest). is_gang_tree x.block) c.gang_assemble_free.ensures.waiting ∙ now.1,
-    ))
-
-pub returns-in-Ok-None-clause-left : goal.returns-in-Ok-None-clause-left
-returns-in-Ok-None-clause-left c =
-    let at = c.args.self.now in
-    let r = at.node in
-    let work = is_free r.waiting.request.work c.requires.kind in
-    let behind = not_start at.stage GangAssemble c.requires.stage (λ e. cc) in
-    let new = c.gang_assemble_free.new.self in
-    let same = c.gang_assemble_free.ensures.still (c.in-Ok-None.is ∙ ap (λ (o : Option HeadsNode). Ok o) c.in-Ok-None.field-0-is) in
-    let is = free_assembled c.with_gang.result c.next-self.result c.with_gang.ensures.stages c.next-self.ensures in
-    let less =
-    stage_less_same r.own new.own at.stage c.next-self.result (told_cost + told_cost + 3) (told_cost + told_cost + 2) (ap (λ x. x.own) same)
-    (ap free_stages c.requires.stage) (ap free_stages is) (omega arith) in
-    omega (
-      arith,
-      free_less at new c.next-self.result at.is_due 1 work behind (not_start c.next-self.result GangIssue is (λ e. cc)) c.gang_assemble_free.ensures.rest less,
-    )
-
 pub returns-in-Err-clause-refused : goal.returns-in-Err-clause-refused
 returns-in-Err-clause-refused c = λ tops.
     let at = c.args.self.now in
     refused_bare tops at c.gang_assemble_free.new.self at.stage at.is_due c.in-Err.ensures.err refl
-
-pub returns-in-Ok-None-clause-stages : goal.returns-in-Ok-None-clause-stages
-returns-in-Ok-None-clause-stages c =
-    let at = c.args.self.now in
-    let r = at.node in
-    let work = is_free r.waiting.request.work c.requires.kind in
-    let now = free_stands c.requires.over.0 at GangAssemble work c.requires.over.1 c.requires.stage (λ e. cc) in
-    inl (gang_leads at FreeKind FREE c.with_gang.result GangAssemble c.next-self.result c.requires.kind c.requires.stage
-    (gang_of_free r.waiting.request.work r.waiting.block c.requires.kind ∙ now.1) (λ s. refl) c.with_gang.ensures.stages
-    (up_to_kept (gang_of at) c.next-self.result GangIssue (free_assembled c.with_gang.result c.next-self.result c.with_gang.ensures.stages c.next-self.ensures) refl) c.next-self.ensures)
 
 pub returns-in_err-room-clause-refused : goal.returns-in_err-room-clause-refused
 returns-in_err-room-clause-refused c = λ tops.
@@ -164,3 +114,55 @@ returns-in_err-room-clause-refused c = λ tops.
 
 pub returns-in-Ok-Some-clause-stages : goal.returns-in-Ok-Some-clause-stages
 returns-in-Ok-Some-clause-stages c = let g = grows_so (Request c.args.self.now) GangAssemble Gang c.requires.stage refl (λ e. cc) (λ e. cc) in (refl, g.0, g.1, g.2)
+
+pub returns-then-not-is_walk_due_free-clause-moves : goal.returns-then-not-is_walk_due_free-clause-moves
+returns-then-not-is_walk_due_free-clause-moves c = λ tops.
+    let at = c.args.self.now in
+    next_same tops at at.node c.next-self.result at.is_due refl
+    (ap is_told (free_assembled c.with_gang.result c.next-self.result c.with_gang.ensures.stages c.next-self.ensures) ∙ sym (ap is_told c.requires.stage))
+
+pub returns-then-not-is_walk_due_free-clause-over : goal.returns-then-not-is_walk_due_free-clause-over
+returns-then-not-is_walk_due_free-clause-over c = λ tops h.
+    let at = c.args.self.now in
+    let r = at.node in
+    let work = is_free r.waiting.request.work c.requires.kind in
+    let behind = not_start at.stage GangAssemble c.requires.stage (λ e. cc) in
+    let now = free_stands tops at GangAssemble work h c.requires.stage (λ e. cc) in
+    free_over tops at r c.next-self.result at.is_due work h behind refl h.over.own
+    (subst (λ (s : Stage). IsFreeAtStage s at.is_due r.own r.waiting.block)
+    (sym (free_assembled c.with_gang.result c.next-self.result c.with_gang.ensures.stages c.next-self.ensures)) (
+      none_yet r.waiting.block r.own now.0,
+      c.is_walk_due_free.ensures.none c.if-not-is_walk_due_free.true now.1 (free_map HasKeptAll (λ w. Unit {0}) r.own (λ w kept. tt) now.0),
+      now.1,
+    ))
+
+pub returns-then-not-is_walk_due_free-clause-left : goal.returns-then-not-is_walk_due_free-clause-left
+returns-then-not-is_walk_due_free-clause-left c =
+    let at = c.args.self.now in
+    let r = at.node in
+    let work = is_free r.waiting.request.work c.requires.kind in
+    let behind = not_start at.stage GangAssemble c.requires.stage (λ e. cc) in
+    let is = free_assembled c.with_gang.result c.next-self.result c.with_gang.ensures.stages c.next-self.ensures in
+    let less =
+    stage_less_same r.own r.own at.stage c.next-self.result (told_cost + told_cost + 3) (told_cost + told_cost + 2) refl
+    (ap free_stages c.requires.stage) (ap free_stages is) (omega arith) in
+    omega (arith, free_less at r c.next-self.result at.is_due 1 work behind (not_start c.next-self.result GangIssue is (λ e. cc)) refl less)
+
+pub returns-then-not-is_walk_due_free-clause-stages : goal.returns-then-not-is_walk_due_free-clause-stages
+returns-then-not-is_walk_due_free-clause-stages c =
+    let at = c.args.self.now in
+    let r = at.node in
+    let work = is_free r.waiting.request.work c.requires.kind in
+    let now = free_stands c.requires.over.0 at GangAssemble work c.requires.over.1 c.requires.stage (λ e. cc) in
+    inl (gang_leads at FreeKind FREE c.with_gang.result GangAssemble c.next-self.result c.requires.kind c.requires.stage
+    (gang_of_free r.waiting.request.work r.waiting.block c.requires.kind ∙ now.1) (λ s. refl) c.with_gang.ensures.stages
+    (up_to_kept (gang_of at) c.next-self.result GangIssue (free_assembled c.with_gang.result c.next-self.result c.with_gang.ensures.stages c.next-self.ensures) refl) c.next-self.ensures)
+
+pub unreachable-requires : goal.unreachable-requires
+unreachable-requires c =
+    let at = c.args.self.now in
+    let over = c.requires.over in
+    let now = free_stands over.0 at GangAssemble (is_free at.node.waiting.request.work c.requires.kind) over.1 c.requires.stage (λ e. cc) in
+    let none = c.in-Ok-None.is ∙ ap (λ (o : Option HeadsNode). Ok o) c.in-Ok-None.field-0-is in
+    walk_due_begun at.node.own (c.is_walk_due_free.ensures.due c.if-not-is_walk_due_free.false)
+    (subst (λ (x : RequestNode). IsFreeWith (λ w. HasBegun w.walk) x.own) (c.gang_assemble_free.ensures.still none) (c.gang_assemble_free.ensures.begun none now.1))

@@ -1,4 +1,4 @@
-use Rattle.std.proofs.Common.{◌+◌, Ok, Option, refl, sym, ap, subst, ◌∙◌, arith, inl}
+use Rattle.std.proofs.Common.{◌+◌, ◌≤◌, Ok, Option, refl, sym, ap, subst, ◌∙◌, arith, inl}
 use Rattle.std.specs.Prelude.{IfSome}
 use Rattle.zio_masks.specs.declared.stage.Stage.{Stage}
 use Rattle.zio_masks.specs.declared.stage.Stage.TheVariants.{GangAssemble, GangIssue}
@@ -23,7 +23,7 @@ use Rattle.zio_nodes.proofs.OwnLefts.{read_gave_same, read_less}
 use Rattle.zio_nodes.proofs.OwnOver.{is_read, not_start, read_over, read_stands}
 use Rattle.zio_nodes.proofs.OwnStages.{read_assembled}
 use Rattle.zio_nodes.proofs.ReadLemmas.{read_both}
-use Rattle.zio_nodes.proofs.ReadStages.{same_less, stage_less, walking_less, walks_still, with_map}
+use Rattle.zio_nodes.proofs.ReadStages.{any_read, same_less, stage_less, walk_due_begun, walking_less, walks_still, with_map}
 use Rattle.zio_masks.specs.declared.pipeline.TheConstants.{READ}
 use Rattle.zio_types.specs.declared.request.Kind.TheVariants.{Read as ReadKind}
 use Rattle.zio_nodes.proofs.StageLeads.{gang_leads, gang_of, gang_of_read, up_to_kept}
@@ -95,59 +95,49 @@ returns-in-Ok-Some-clause-left c =
       c.new-child.ensures.left ∙ ap walk_max whole.1,
     )
 
-pub returns-in-Ok-None-clause-moves : goal.returns-in-Ok-None-clause-moves
-returns-in-Ok-None-clause-moves c = λ tops.
-    let at = c.args.self.now in
-    let r = at.node in
-    let work = is_read r.waiting.request.work c.requires.kind in
-    let behind = not_start at.stage GangAssemble c.requires.stage (λ e. cc) in
-    let new = c.gang_assemble_read.new.self in
-    let none = c.in-Ok-None.is ∙ ap (λ (o : Option HeadsNode). Ok o) c.in-Ok-None.field-0-is in
-    let same = c.gang_assemble_read.ensures.none none in
-    let is = read_assembled c.with_gang.result c.next-self.result c.with_gang.ensures.stages c.next-self.ensures in
-    next_same tops at new c.next-self.result at.is_due same (ap is_told is ∙ sym (ap is_told c.requires.stage))
-
-pub returns-in-Ok-None-clause-over : goal.returns-in-Ok-None-clause-over
-returns-in-Ok-None-clause-over c = λ tops h.
-    let at = c.args.self.now in
-    let r = at.node in
-    let work = is_read r.waiting.request.work c.requires.kind in
-    let behind = not_start at.stage GangAssemble c.requires.stage (λ e. cc) in
-    let new = c.gang_assemble_read.new.self in
-    let none = c.in-Ok-None.is ∙ ap (λ (o : Option HeadsNode). Ok o) c.in-Ok-None.field-0-is in
-    let same = c.gang_assemble_read.ensures.none none in
-    let is = read_assembled c.with_gang.result c.next-self.result c.with_gang.ensures.stages c.next-self.ensures in
-    let now = read_stands tops at GangAssemble work h c.requires.stage (λ e. cc) in
-    let block = ap (λ x. is_gang_tree x.block) c.gang_assemble_read.ensures.waiting in
-    let walking = subst (λ (x : RequestNode). IsReadWith IsWalking x.own) (sym same) now.1 in
-    read_over tops at new c.next-self.result at.is_due work h behind c.gang_assemble_read.ensures.rest (c.gang_assemble_read.ensures.over tops h.over.own)
-    (subst (λ (s : Stage). IsReadAtStage tops s at.is_due new.own new.waiting.block) (sym is)
-    (block ∙ now.0, read_both IsWalking HasWalkBegun IsIssuing new.own (λ w a b. (a.0, a.1, b)) walking (c.gang_assemble_read.ensures.begun none now.0)))
-
-pub returns-in-Ok-None-clause-left : goal.returns-in-Ok-None-clause-left
-returns-in-Ok-None-clause-left c =
-    let at = c.args.self.now in
-    let r = at.node in
-    let work = is_read r.waiting.request.work c.requires.kind in
-    let behind = not_start at.stage GangAssemble c.requires.stage (λ e. cc) in
-    let new = c.gang_assemble_read.new.self in
-    let none = c.in-Ok-None.is ∙ ap (λ (o : Option HeadsNode). Ok o) c.in-Ok-None.field-0-is in
-    let same = c.gang_assemble_read.ensures.none none in
-    let is = read_assembled c.with_gang.result c.next-self.result c.with_gang.ensures.stages c.next-self.ensures in
-    omega (
-      arith,
-      read_less at new c.next-self.result at.is_due 1 work behind (not_start c.next-self.result GangIssue is (λ e. cc)) c.gang_assemble_read.ensures.rest
-          (stage_less r.own new.own at.stage c.next-self.result at.is_due at.is_due 1 (told_cost + told_cost + 6) (told_cost + told_cost + 5)
-          (omega (arith, ap (λ x. reading_left x.own) same))
-          (ap (λ s. read_stages s at.is_due) c.requires.stage) (ap (λ s. read_stages s at.is_due) is) (omega arith)),
-    )
-
 pub returns-in-Err-clause-refused : goal.returns-in-Err-clause-refused
 returns-in-Err-clause-refused c = λ tops.
     refused_bare tops c.args.self.now c.gang_assemble_read.new.self c.args.self.now.stage c.args.self.now.is_due c.in-Err.ensures.err refl
 
-pub returns-in-Ok-None-clause-stages : goal.returns-in-Ok-None-clause-stages
-returns-in-Ok-None-clause-stages c =
+pub returns-in-Ok-Some-clause-stages : goal.returns-in-Ok-Some-clause-stages
+returns-in-Ok-Some-clause-stages c = let g = grows_so (Request c.args.self.now) GangAssemble Gang c.requires.stage refl (λ e. cc) (λ e. cc) in (refl, g.0, g.1, g.2)
+
+pub returns-then-not-is_walk_due_read-clause-moves : goal.returns-then-not-is_walk_due_read-clause-moves
+returns-then-not-is_walk_due_read-clause-moves c = λ tops.
+    let at = c.args.self.now in
+    let is = read_assembled c.with_gang.result c.next-self.result c.with_gang.ensures.stages c.next-self.ensures in
+    next_same tops at at.node c.next-self.result at.is_due refl (ap is_told is ∙ sym (ap is_told c.requires.stage))
+
+pub returns-then-not-is_walk_due_read-clause-over : goal.returns-then-not-is_walk_due_read-clause-over
+returns-then-not-is_walk_due_read-clause-over c = λ tops h.
+    let at = c.args.self.now in
+    let r = at.node in
+    let work = is_read r.waiting.request.work c.requires.kind in
+    let behind = not_start at.stage GangAssemble c.requires.stage (λ e. cc) in
+    let is = read_assembled c.with_gang.result c.next-self.result c.with_gang.ensures.stages c.next-self.ensures in
+    let now = read_stands tops at GangAssemble work h c.requires.stage (λ e. cc) in
+    let begun = c.is_walk_due_read.ensures.none c.if-not-is_walk_due_read.true now.0 (any_read IsWalking r.own now.1) in
+    read_over tops at r c.next-self.result at.is_due work h behind refl h.over.own
+    (subst (λ (s : Stage). IsReadAtStage tops s at.is_due r.own r.waiting.block) (sym is)
+    (now.0, read_both IsWalking HasWalkBegun IsIssuing r.own (λ w a b. (a.0, a.1, b)) now.1 begun))
+
+pub returns-then-not-is_walk_due_read-clause-left : goal.returns-then-not-is_walk_due_read-clause-left
+returns-then-not-is_walk_due_read-clause-left c =
+    let at = c.args.self.now in
+    let r = at.node in
+    let work = is_read r.waiting.request.work c.requires.kind in
+    let behind = not_start at.stage GangAssemble c.requires.stage (λ e. cc) in
+    let is = read_assembled c.with_gang.result c.next-self.result c.with_gang.ensures.stages c.next-self.ensures in
+    let most : reading_left r.own ≤ reading_left r.own = omega arith in
+    omega (
+      arith,
+      read_less at r c.next-self.result at.is_due 1 work behind (not_start c.next-self.result GangIssue is (λ e. cc)) refl
+          (stage_less r.own r.own at.stage c.next-self.result at.is_due at.is_due 1 (told_cost + told_cost + 6) (told_cost + told_cost + 5) most
+          (ap (λ s. read_stages s at.is_due) c.requires.stage) (ap (λ s. read_stages s at.is_due) is) (omega arith)),
+    )
+
+pub returns-then-not-is_walk_due_read-clause-stages : goal.returns-then-not-is_walk_due_read-clause-stages
+returns-then-not-is_walk_due_read-clause-stages c =
     let at = c.args.self.now in
     let r = at.node in
     inl (gang_leads at ReadKind READ c.with_gang.result GangAssemble c.next-self.result c.requires.kind c.requires.stage
@@ -156,5 +146,11 @@ returns-in-Ok-None-clause-stages c =
     (λ s. refl) c.with_gang.ensures.stages
     (up_to_kept (gang_of at) c.next-self.result GangIssue (read_assembled c.with_gang.result c.next-self.result c.with_gang.ensures.stages c.next-self.ensures) refl) c.next-self.ensures)
 
-pub returns-in-Ok-Some-clause-stages : goal.returns-in-Ok-Some-clause-stages
-returns-in-Ok-Some-clause-stages c = let g = grows_so (Request c.args.self.now) GangAssemble Gang c.requires.stage refl (λ e. cc) (λ e. cc) in (refl, g.0, g.1, g.2)
+pub unreachable-requires : goal.unreachable-requires
+unreachable-requires c =
+    let at = c.args.self.now in
+    let over = c.requires.over in
+    let now = read_stands over.0 at GangAssemble (is_read at.node.waiting.request.work c.requires.kind) over.1 c.requires.stage (λ e. cc) in
+    let none = c.in-Ok-None.is ∙ ap (λ (o : Option HeadsNode). Ok o) c.in-Ok-None.field-0-is in
+    walk_due_begun at.node.own (c.is_walk_due_read.ensures.due c.if-not-is_walk_due_read.false)
+    (subst (λ (x : RequestNode). IsReadWith HasWalkBegun x.own) (c.gang_assemble_read.ensures.none none) (c.gang_assemble_read.ensures.begun none now.0))

@@ -15,6 +15,7 @@ use Rattle.zio_nodes.proofs.OwnOver.{is_read, not_start, read_over, read_stands}
 use Rattle.zio_nodes.proofs.ReadStages.{due_again, read_issued_all, stage_less, with_map}
 use Rattle.zio_nodes.proofs.StageLeads.{gang_of, gang_of_read, plain_kept, read_leads}
 use Rattle.zio_nodes.proofs.StageAllows.{goes_back, stalls_so}
+use Rattle.zio_nodes.specs.declared.node.Node.{Node}
 use Rattle.zio_nodes.specs.declared.node.Node.TheVariants.{Request}
 use Rattle.zio_nodes.proofs.PassLemmas.{any_stage}
 use Rattle.zio_nodes.proofs.request_at.RequestAt.read_io_done.Goals as goal
@@ -90,7 +91,10 @@ returns-in-On-clause-left c =
     )
 
 pub returns-in-More-clause-stages : goal.returns-in-More-clause-stages
-returns-in-More-clause-stages c = inr (inl (goes_back (Request c.args.self.now) _ c.requires.stage refl, refl))
+returns-in-More-clause-stages c =
+    let at = c.args.self.now in
+    let after : Node = Request (record { node = at.node; stage = VdevIoStart; is_due = true }) in
+    inr (inl (goes_back c.args.tops.now (Request at) after c.requires.stage (inl (c.vdev_io_done_read.ensures.more c.in-More.is)), refl))
 
 pub returns-in-On-clause-stages : goal.returns-in-On-clause-stages
 returns-in-On-clause-stages c =

@@ -28,11 +28,6 @@ use Rattle.zio_stages.specs.RequestKinds.{is_gang_tree}
 use Rattle.zio_nodes.proofs.PassLemmas.{any_stage, read_in_pass}
 use Rattle.zio_nodes.proofs.request_at.RequestAt.read_io_start.Goals as goal
 
-pub returns-in_err-room-clause-refused : goal.returns-in_err-room-clause-refused
-returns-in_err-room-clause-refused c =
-    let at = c.args.self.now in
-    on_err c.from_residual.result (refused_bare c.args.tops.now at at.node at.stage at.is_due refl refl)
-
 pub returns-in-Ok-Some-clause-moves : goal.returns-in-Ok-Some-clause-moves
 returns-in-Ok-Some-clause-moves c = λ t st on.
     let at = c.args.self.now in

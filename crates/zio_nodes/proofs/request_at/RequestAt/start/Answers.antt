@@ -78,55 +78,12 @@ next-self-requires-clause-ends c =
     let w = c.args.self.now.node.waiting in
     has_done w.request.work (has_gang_stages w.request.work w.block) c.mask-mask.result c.mask-mask.ensures
 
-pub returns-in-Ok-AllOut-clause-moves : goal.returns-in-Ok-AllOut-clause-moves
-returns-in-Ok-AllOut-clause-moves c = λ tops t st now.
-    let r = c.args.self.now.node in
-    let new = c.start.new.self in
-    let ok : c.start.result ≡ Ok AllOut = c.in-Ok-AllOut.is ∙ ap (λ (s : Start). Ok s) c.in-Ok-AllOut.field-0-is in
-    let same : new ≡ r = c.start.ensures.same ok in
-    let next = first_stage r.waiting.request.work r.waiting.block c.mask-mask.result c.next-self.result c.mask-mask.ensures c.next-self.ensures in
-    request_goes t st c.args.self.now _ (subst (λ (x : RequestNode). IsRequestNode t x st) (sym same) now.is)
-    (ap is_told next ∙ first_told r.waiting.request.work ∙ sym (ap is_told c.requires.stage)) (gave_still r new c.start.ensures.rest)
-
-pub returns-in-Ok-AllOut-clause-over : goal.returns-in-Ok-AllOut-clause-over
-returns-in-Ok-AllOut-clause-over c = λ tops h.
-    let r = c.args.self.now.node in
-    let new = c.start.new.self in
-    let ok : c.start.result ≡ Ok AllOut = c.in-Ok-AllOut.is ∙ ap (λ (s : Start). Ok s) c.in-Ok-AllOut.field-0-is in
-    let same : new ≡ r = c.start.ensures.same ok in
-    let next = first_stage r.waiting.request.work r.waiting.block c.mask-mask.result c.next-self.result c.mask-mask.ensures c.next-self.ensures in
-    let due = start_due tops c.args.self.now.stage c.args.self.now.is_due r c.requires.stage h.stands in
-    record {
-      over = subst (IsRequestOver tops) (sym same) h.over;
-      stands = first_stands tops c.next-self.result new (next ∙ sym (ap (λ (x : RequestNode). first_of x.waiting.request.work) same))
-          (ap (λ (x : RequestNode). x.own) same ∙ due) (c.start.ensures.all_out ok);
-    }
-
-pub returns-in-Ok-AllOut-clause-left : goal.returns-in-Ok-AllOut-clause-left
-returns-in-Ok-AllOut-clause-left c =
-    let r = c.args.self.now.node in
-    let new = c.start.new.self in
-    let ok : c.start.result ≡ Ok AllOut = c.in-Ok-AllOut.is ∙ ap (λ (s : Start). Ok s) c.in-Ok-AllOut.field-0-is in
-    let same : new ≡ r = c.start.ensures.same ok in
-    let next = first_stage r.waiting.request.work r.waiting.block c.mask-mask.result c.next-self.result c.mask-mask.ensures c.next-self.ensures in
-    let at : RequestAt = record { node = new; stage = c.next-self.result; is_due = true } in
-    let less : own_left at < own_max = first_less at (next ∙ sym (ap (λ (x : RequestNode). first_of x.waiting.request.work) same)) in
-    let was : own_left c.args.self.now ≡ own_max = ap (λ (s : Stage). own_at s r.waiting.request.work c.args.self.now) c.requires.stage in
-    same_due_less r.kids.due new.kids.due (own_left at) (own_left c.args.self.now) (ap (λ (x : RequestNode). x.kids.due) same) (omega (arith, less, was))
-
 pub returns-in-Err-clause-refused : goal.returns-in-Err-clause-refused
 returns-in-Err-clause-refused c = λ tops t st now.
     let r = c.args.self.now.node in
     let new = c.start.new.self in
     let same : new ≡ r = c.in-Err.ensures.err in
     request_goes t st c.args.self.now _ (subst (λ (x : RequestNode). IsRequestNode t x st) (sym same) now.is) refl (gave_still r new c.start.ensures.rest)
-
-pub returns-in-Ok-AllOut-clause-stages : goal.returns-in-Ok-AllOut-clause-stages
-returns-in-Ok-AllOut-clause-stages c =
-    let at = c.args.self.now in
-    let w = at.node.waiting in
-    let next = first_stage w.request.work w.block c.mask-mask.result c.next-self.result c.mask-mask.ensures c.next-self.ensures in
-    inl (mask_leads at c.mask-mask.result StartStage c.next-self.result c.requires.stage c.mask-mask.ensures (ap (is_kept (gang_of at)) next ∙ first_kept w.request.work w.block) c.next-self.ensures)
 
 pub returns-in_err-room-clause-refused : goal.returns-in_err-room-clause-refused
 returns-in_err-room-clause-refused c = λ tops. no_room tops c.args.self.now c.from_residual.result
@@ -139,3 +96,40 @@ returns-in-Ok-Child-clause-stages c =
       λ there. absurd (starts_not (sym there ∙ c.requires.stage)),
       λ there. c.start.ensures.less c.in-Ok-Child.field-0-0 c.in-Ok-Child.whole ok,
     )
+
+pub returns-then-not-has_child_due-clause-moves : goal.returns-then-not-has_child_due-clause-moves
+returns-then-not-has_child_due-clause-moves c = λ tops t st now.
+    let r = c.args.self.now.node in
+    let next = first_stage r.waiting.request.work r.waiting.block c.mask-mask.result c.next-self.result c.mask-mask.ensures c.next-self.ensures in
+    request_goes t st c.args.self.now _ now.is (ap is_told next ∙ first_told r.waiting.request.work ∙ sym (ap is_told c.requires.stage)) refl
+
+pub returns-then-not-has_child_due-clause-over : goal.returns-then-not-has_child_due-clause-over
+returns-then-not-has_child_due-clause-over c = λ tops h.
+    let r = c.args.self.now.node in
+    let next = first_stage r.waiting.request.work r.waiting.block c.mask-mask.result c.next-self.result c.mask-mask.ensures c.next-self.ensures in
+    let due = start_due tops c.args.self.now.stage c.args.self.now.is_due r c.requires.stage h.stands in
+    record { over = h.over; stands = first_stands tops c.next-self.result r next due (c.has_child_due.ensures.none c.if-not-has_child_due.true) }
+
+pub returns-then-not-has_child_due-clause-left : goal.returns-then-not-has_child_due-clause-left
+returns-then-not-has_child_due-clause-left c =
+    let r = c.args.self.now.node in
+    let next = first_stage r.waiting.request.work r.waiting.block c.mask-mask.result c.next-self.result c.mask-mask.ensures c.next-self.ensures in
+    let at : RequestAt = record { node = r; stage = c.next-self.result; is_due = true } in
+    let less : own_left at < own_max = first_less at next in
+    let was : own_left c.args.self.now ≡ own_max = ap (λ (s : Stage). own_at s r.waiting.request.work c.args.self.now) c.requires.stage in
+    same_due_less r.kids.due r.kids.due (own_left at) (own_left c.args.self.now) refl (omega (arith, less, was))
+
+pub returns-then-not-has_child_due-clause-stages : goal.returns-then-not-has_child_due-clause-stages
+returns-then-not-has_child_due-clause-stages c =
+    let at = c.args.self.now in
+    let w = at.node.waiting in
+    let next = first_stage w.request.work w.block c.mask-mask.result c.next-self.result c.mask-mask.ensures c.next-self.ensures in
+    inl (mask_leads at c.mask-mask.result StartStage c.next-self.result c.requires.stage c.mask-mask.ensures (ap (is_kept (gang_of at)) next ∙ first_kept w.request.work w.block) c.next-self.ensures)
+
+pub unreachable-requires : goal.unreachable-requires
+unreachable-requires c =
+    let r = c.args.self.now.node in
+    let ok : c.start.result ≡ Ok AllOut = c.in-Ok-AllOut.is ∙ ap (λ (s : Start). Ok s) c.in-Ok-AllOut.field-0-is in
+    let all : r.kids.kids.handed ≡ length r.kids.kids.kids =
+    subst (λ (x : RequestNode). x.kids.kids.handed ≡ length x.kids.kids.kids) (c.start.ensures.same ok) (c.start.ensures.all_out ok) in
+    omega (arith, all, c.has_child_due.ensures.due c.if-not-has_child_due.false)

@@ -9,6 +9,7 @@ use Rattle.zio_nodes.proofs.StageLemmas.{write_done}
 use Rattle.zio_nodes.proofs.WriteLemmas.{all_out, is_due_now, stands_in, stands_to, write_less}
 use Rattle.zio_nodes.proofs.StageLeads.{write_leads}
 use Rattle.zio_nodes.proofs.StageAllows.{goes_back, stalls_so}
+use Rattle.zio_nodes.specs.declared.node.Node.{Node}
 use Rattle.zio_nodes.specs.declared.node.Node.TheVariants.{Request}
 use Rattle.zio_types.specs.declared.request.Phase.TheVariants.{Done}
 use Rattle.zio_types.specs.declared.request.ChildKind.TheVariants.{Vdev}
@@ -71,7 +72,10 @@ returns-in-On-clause-left c =
     write_less at after VdevIoDone VdevIoAssess c.requires.kind c.requires.kind c.requires.stage (write_done c.next-self.result c.next-self.ensures) tt tt refl (omega arith)
 
 pub returns-in-More-clause-stages : goal.returns-in-More-clause-stages
-returns-in-More-clause-stages c = inr (inl (goes_back (Request c.args.self.now) _ c.requires.stage refl, refl))
+returns-in-More-clause-stages c =
+    let at = c.args.self.now in
+    let after : Node = Request (record { node = at.node; stage = VdevIoStart; is_due = true }) in
+    inr (inl (goes_back c.args.tops.now (Request at) after c.requires.stage (inr (c.vdev_io_done_write.ensures.more c.in-More.is)), refl))
 
 pub returns-in-On-clause-stages : goal.returns-in-On-clause-stages
 returns-in-On-clause-stages c = inl (write_leads c.args.self.now VdevIoDone c.next-self.result c.requires.kind c.requires.stage c.next-self.ensures)

@@ -117,9 +117,6 @@ returns-in-Err-clause-refused c = λ t st now.
 pub returns-in-Ok-None-clause-stages : goal.returns-in-Ok-None-clause-stages
 returns-in-Ok-None-clause-stages c = inl (write_leads c.args.self.now VdevIoStart c.next-self.result c.requires.kind c.requires.stage c.next-self.ensures)
 
-pub returns-in_err-room-clause-refused : goal.returns-in_err-room-clause-refused
-returns-in_err-room-clause-refused c = no_room c.args.tops.now c.args.self.now c.from_residual.result
-
 pub returns-in-Ok-Some-clause-stages : goal.returns-in-Ok-Some-clause-stages
 returns-in-Ok-Some-clause-stages c = let g = grows_so (Request c.args.self.now) VdevIoStart Vdev c.requires.stage refl (λ e. cc) (λ e. cc) in (refl, g.0, g.1, g.2)
 

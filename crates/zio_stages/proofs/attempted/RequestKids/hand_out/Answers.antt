@@ -3,7 +3,7 @@ use Rattle.std.proofs.lemmas.List.{length-reverse}
 use Rattle.zio_children.specs.RequestKids.{numbers_of}
 use Rattle.zio_stages.specs.KidTrees.{HandsOut, IsKids, KidsHeld}
 use Rattle.zio_stages.proofs.KidMoves.{handed_held, hands_out, number_of_next, some_due}
-use Rattle.zio_stages.proofs.SplitLemmas.{reverse_last}
+use Rattle.zio_stages.proofs.ReverseLemmas.{reverse_last}
 use Rattle.zio_stages.proofs.attempted.RequestKids.hand_out.Goals as goal
 
 pub unreachable-requires : goal.unreachable-requires

@@ -25,7 +25,7 @@ invariant_of-self c =
     let root : root_number c.args.whole ≡ slice_get (numbers_of x.kids.kids) c.args.n =
     c.requires.root ∙ ap (λ (z : KidsHeld). slice_get (numbers_of z.kids.kids) c.args.n) (sym c.self.view_is) in
     again_held x c.hear.new.self c.args.n (Ended c.args.bits None c.args.pointer) c.args.whole c.self.invariant
-    c.hear.ensures.heard root (subst IsWhole c.whole.view_is c.whole.invariant)
+    c.hear.ensures.heard root c.root-root.ensures.whole
 
 pub returns-clause-after : goal.returns-clause-after
 returns-clause-after c = λ attempt forest asked slots number one is at by left.

@@ -9,7 +9,7 @@ use Rattle.zio_stages.specs.NodeChildren.{new_child, seat_of}
 use Rattle.zio_stages.specs.PartOwns.{member_of}
 use Rattle.zio_stages.proofs.PartIos.{no_io}
 use Rattle.zio_stages.specs.declared.part.PartOwn.{PartOwn}
-use Rattle.zio_stages.proofs.PartMembers.{hands_member, member_number, member_under, over_more}
+use Rattle.zio_stages.proofs.PartMembers.{hands_member, member_number, member_only, member_under, over_more}
 use Rattle.zio_stages.proofs.part_work.PartWork.member.Goals as goal
 
 pub returns-clause-hands : goal.returns-clause-hands
@@ -63,3 +63,6 @@ returns-clause-next c =
     member_under x c.hand_out_member-own.new.self.part n c.of.result step (returns-clause-members c) (returns-clause-path c)
     (ap (λ (w : PartOwn). w.part.path) c.of.ensures.own ∙ c.hand_out_member-own.ensures.path) c.hand_out_member-own.ensures.deep
     (ap (λ (w : PartOwn). w.part.members) c.of.ensures.own ∙ c.hand_out_member-own.ensures.begun) c.of.ensures.none
+
+pub unreachable-requires : goal.unreachable-requires
+unreachable-requires c = member_only (step_of c.args.self.now.own.part) c.requires.due (λ n e. c.in_default.not-Member n (c.next.ensures.shows.is ∙ e))

@@ -4,7 +4,7 @@ use Rattle.zio_vqueue.specs.declared.op.Op.{Op}
 use Rattle.zio_vqueue.specs.declared.spots.Spot.{Spot}
 use Rattle.zio_vqueue.specs.Groups.{IsNextGroup, IsRun, IsSpanOf, gap_max}
 use Rattle.zio_vqueue.specs.Queues.{AreApart, Queue, active_of, eligible}
-use Rattle.zio_vqueue.specs.Spots.{AllFit, AreThere, at_time, first_served}
+use Rattle.zio_vqueue.specs.Spots.{AllFit, AreThere, at_time, first_served, ops_at, timed_of}
 use Rattle.zio_vqueue.proofs.MemberLemmas.{members_apart, members_run, members_there}
 use Rattle.zio_vqueue.proofs.ServeLemmas.{eligible_alike, there_all, there_served}
 use Rattle.zio_vqueue.proofs.TakeLemmas.{admitted_set, all_fit_there, eligible_due, fit_there, members_some, next_group, served_some}
@@ -12,25 +12,25 @@ use Rattle.zio_vqueue.proofs.queue.VQueue.take.Goals as goal
 
 pub returns-in_default-clause-none : goal.returns-in_default-clause-none
 returns-in_default-clause-none c = λ _.
-    let q : Queue = record { queued = values_of c.self.inside.by_time.entries; active = c.self.inside.active; last = c.self.inside.last } in
+    let q : Queue = record { queued = ops_at c.self.inside.spots.entries; active = c.self.inside.active; last = c.self.inside.last } in
     (ap eligible (sym c.self.view_is) ∙ sym (c.eligible.ensures ∙ eligible_alike q c.self.inside.waiting c.self.invariant.counted) ∙ c.in_default.is, refl)
 
 pub returns-in_default-first_served-clause-none : goal.returns-in_default-first_served-clause-none
 returns-in_default-first_served-clause-none c = λ _.
-    let q : Queue = record { queued = values_of c.self.inside.by_time.entries; active = c.self.inside.active; last = c.self.inside.last } in
+    let q : Queue = record { queued = ops_at c.self.inside.spots.entries; active = c.self.inside.active; last = c.self.inside.last } in
     let e : eligible q ≡ Some c.in-Some.prio =
     sym (c.eligible.ensures ∙ eligible_alike q c.self.inside.waiting c.self.invariant.counted) ∙ c.in-Some.is in
-    absurd (served_some q c.in-Some.prio c.self.inside.by_time.entries c.self.inside.spots.entries refl c.self.invariant.indexed e (sym c.first_served.ensures ∙ c.in_default-first_served.is))
+    absurd (served_some q c.in-Some.prio (timed_of c.self.inside.spots.entries) c.self.inside.spots.entries refl c.self.invariant.indexed e (sym c.first_served.ensures ∙ c.in_default-first_served.is))
 
 pub gather-requires-clause-first : goal.gather-requires-clause-first
 gather-requires-clause-first c =
-    fit_there c.self.inside.by_time.entries c.in-Some-first_served.spot.time c.in-Some-first_served.first c.self.invariant.indexed.fit
+    fit_there (timed_of c.self.inside.spots.entries) c.in-Some-first_served.spot.time c.in-Some-first_served.first c.self.invariant.indexed.fit
     (there_served c.in-Some.prio c.self.inside.last _ c.self.inside.spots.entries (c.in-Some-first_served.spot, c.in-Some-first_served.first) c.self.invariant.indexed
     (sym c.first_served.ensures ∙ c.in-Some-first_served.is))
 
 pub gather-requires-clause-fit : goal.gather-requires-clause-fit
 gather-requires-clause-fit c =
-    all_fit_there c.self.inside.by_time.entries c.self.inside.spots.entries c.self.invariant.indexed.fit (there_all c.self.inside.by_time.entries c.self.inside.spots.entries c.self.invariant.indexed)
+    all_fit_there (timed_of c.self.inside.spots.entries) c.self.inside.spots.entries c.self.invariant.indexed.fit (there_all (timed_of c.self.inside.spots.entries) c.self.inside.spots.entries c.self.invariant.indexed)
 
 pub group_of-requires-clause-some : goal.group_of-requires-clause-some
 group_of-requires-clause-some c =
@@ -39,12 +39,12 @@ group_of-requires-clause-some c =
 
 pub group_of-requires-clause-fit : goal.group_of-requires-clause-fit
 group_of-requires-clause-fit c =
-    let there : at_time c.self.inside.by_time.entries c.in-Some-first_served.spot.time ≡ Some c.in-Some-first_served.first =
+    let there : at_time (timed_of c.self.inside.spots.entries) c.in-Some-first_served.spot.time ≡ Some c.in-Some-first_served.first =
     there_served c.in-Some.prio c.self.inside.last _ c.self.inside.spots.entries (c.in-Some-first_served.spot, c.in-Some-first_served.first) c.self.invariant.indexed
     (sym c.first_served.ensures ∙ c.in-Some-first_served.is) in
     subst AllFit (sym c.deref.ensures.value)
-    (all_fit_there c.self.inside.by_time.entries c.in_ok-members.members.items c.self.invariant.indexed.fit
-    (members_there c.self.inside.by_time.entries c.self.inside.spots.entries c.in_ok-members.members.items c.in-Some-first_served.spot.time c.in-Some-first_served.first c.self.invariant.indexed there
+    (all_fit_there (timed_of c.self.inside.spots.entries) c.in_ok-members.members.items c.self.invariant.indexed.fit
+    (members_there (timed_of c.self.inside.spots.entries) c.self.inside.spots.entries c.in_ok-members.members.items c.in-Some-first_served.spot.time c.in-Some-first_served.first c.self.invariant.indexed there
     c.in_ok-members.ensures))
 
 pub group_of-requires-clause-run : goal.group_of-requires-clause-run
@@ -56,25 +56,25 @@ group_of-requires-clause-run c = (
 
 pub withdraw-requires-clause-there : goal.withdraw-requires-clause-there
 withdraw-requires-clause-there c =
-    let there : at_time c.self.inside.by_time.entries c.in-Some-first_served.spot.time ≡ Some c.in-Some-first_served.first =
+    let there : at_time (timed_of c.self.inside.spots.entries) c.in-Some-first_served.spot.time ≡ Some c.in-Some-first_served.first =
     there_served c.in-Some.prio c.self.inside.last _ c.self.inside.spots.entries (c.in-Some-first_served.spot, c.in-Some-first_served.first) c.self.invariant.indexed
     (sym c.first_served.ensures ∙ c.in-Some-first_served.is) in
-    subst (AreThere c.self.inside.by_time.entries) (sym c.deref-2.ensures.value)
-    (members_there c.self.inside.by_time.entries c.self.inside.spots.entries c.in_ok-members.members.items c.in-Some-first_served.spot.time c.in-Some-first_served.first c.self.invariant.indexed there
+    subst (AreThere (timed_of c.self.inside.spots.entries)) (sym c.deref-2.ensures.value)
+    (members_there (timed_of c.self.inside.spots.entries) c.self.inside.spots.entries c.in_ok-members.members.items c.in-Some-first_served.spot.time c.in-Some-first_served.first c.self.invariant.indexed there
     c.in_ok-members.ensures)
 
 pub withdraw-requires-clause-apart : goal.withdraw-requires-clause-apart
 withdraw-requires-clause-apart c =
-    let there : at_time c.self.inside.by_time.entries c.in-Some-first_served.spot.time ≡ Some c.in-Some-first_served.first =
+    let there : at_time (timed_of c.self.inside.spots.entries) c.in-Some-first_served.spot.time ≡ Some c.in-Some-first_served.first =
     there_served c.in-Some.prio c.self.inside.last _ c.self.inside.spots.entries (c.in-Some-first_served.spot, c.in-Some-first_served.first) c.self.invariant.indexed
     (sym c.first_served.ensures ∙ c.in-Some-first_served.is) in
     subst (λ (ms : List (Spot × Op)). AreApart (values_of ms)) (sym c.deref-2.ensures.value)
-    (members_apart c.self.inside.by_time.entries c.self.inside.spots.entries c.in_ok-members.members.items c.in-Some-first_served.spot.time c.in-Some-first_served.first c.self.invariant.indexed there
+    (members_apart (timed_of c.self.inside.spots.entries) c.self.inside.spots.entries c.in_ok-members.members.items c.in-Some-first_served.spot.time c.in-Some-first_served.first c.self.invariant.indexed there
     c.in_ok-members.ensures)
 
 pub invariant_of-self : goal.invariant_of-self
 invariant_of-self c =
-    let q : Queue = record { queued = values_of c.self.inside.by_time.entries; active = c.self.inside.active; last = c.self.inside.last } in
+    let q : Queue = record { queued = ops_at c.self.inside.spots.entries; active = c.self.inside.active; last = c.self.inside.last } in
     let e : eligible q ≡ Some c.in-Some.prio =
     sym (c.eligible.ensures ∙ eligible_alike q c.self.inside.waiting c.self.invariant.counted) ∙ c.in-Some.is in
     record {
@@ -87,11 +87,11 @@ invariant_of-self c =
 
 pub returns-clause-group : goal.returns-clause-group
 returns-clause-group c =
-    let q : Queue = record { queued = values_of c.self.inside.by_time.entries; active = c.self.inside.active; last = c.self.inside.last } in
+    let q : Queue = record { queued = ops_at c.self.inside.spots.entries; active = c.self.inside.active; last = c.self.inside.last } in
     let e : eligible q ≡ Some c.in-Some.prio =
     sym (c.eligible.ensures ∙ eligible_alike q c.self.inside.waiting c.self.invariant.counted) ∙ c.in-Some.is in
     subst (λ (x : Queue). IsNextGroup x c.in_ok-group.group) c.self.view_is
-    (next_group q c.self.inside.by_time.entries c.self.inside.spots.entries c.in_ok-members.members.items c.in-Some-first_served.spot c.in-Some-first_served.first c.in_ok-group.group refl
+    (next_group q (timed_of c.self.inside.spots.entries) c.self.inside.spots.entries c.in_ok-members.members.items c.in-Some-first_served.spot c.in-Some-first_served.first c.in_ok-group.group refl
     c.self.invariant.indexed (e ∙ ap Some (sym c.in_ok-group.ensures.prio))
     (subst (λ p. first_served p c.self.inside.last c.self.inside.spots.entries ≡ Some (c.in-Some-first_served.spot, c.in-Some-first_served.first)) (sym c.in_ok-group.ensures.prio)
     (sym c.first_served.ensures ∙ c.in-Some-first_served.is))
